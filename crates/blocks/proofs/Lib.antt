@@ -1,0 +1,10 @@
+pub mod Reading
+pub mod Measuring
+pub mod Below
+pub mod Runs
+pub mod Emitting
+pub mod Answers
+pub mod Masks
+pub mod ThereAndBack
+pub mod BackAgain
+pub mod Theorems
