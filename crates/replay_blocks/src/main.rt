@@ -11,9 +11,8 @@ const ROOM: usize = 2048;
 
 const MALFORMED: u64 = 2;
 
-fn is_refused(coding: &[u8]) -> bool {
-    let mut out = [0u8; ROOM];
-    match blocks::decode(coding, &mut out) {
+fn is_refused(coding: &[u8], out: &mut [u8]) -> bool {
+    match blocks::decode(coding, out) {
         Outcome::Done(_) => false,
         Outcome::Refused(r) => answer::number(r) == MALFORMED,
     }
@@ -27,30 +26,28 @@ fn gave(answer: Outcome, out: &[u8], expected: &[u8]) -> bool {
     }
 }
 
-fn is_decoded(coding: &[u8], message: &[u8]) -> bool {
-    let mut out = [0u8; ROOM];
-    let answer = blocks::decode(coding, &mut out);
-    gave(answer, &out, message)
+fn is_decoded(coding: &[u8], message: &[u8], out: &mut [u8]) -> bool {
+    let answer = blocks::decode(coding, out);
+    gave(answer, out, message)
 }
 
-fn is_encoded(message: &[u8], coding: &[u8]) -> bool {
-    let mut out = [0u8; ROOM];
-    let answer = blocks::encode(message, &mut out);
-    gave(answer, &out, coding)
+fn is_encoded(message: &[u8], coding: &[u8], out: &mut [u8]) -> bool {
+    let answer = blocks::encode(message, out);
+    gave(answer, out, coding)
 }
 
-fn agrees(coding: &[u8], message: &[u8], refused: bool) -> bool {
+fn agrees(coding: &[u8], message: &[u8], refused: bool, out: &mut [u8]) -> bool {
     if refused {
-        return is_refused(coding);
+        return is_refused(coding, out);
     }
-    if is_decoded(coding, message) {
-        return is_encoded(message, coding);
+    if is_decoded(coding, message, out) {
+        return is_encoded(message, coding, out);
     }
     false
 }
 
 // Compares one record, and answers the place behind it.
-fn compare(list: &[u8], at: usize, differing: &mut u64) -> usize {
+fn compare(list: &[u8], at: usize, out: &mut [u8], differing: &mut u64) -> usize {
     let c = recorded::part_at(list, at);
     let m = recorded::part_at(list, c.end);
     let coding = report::between(list, c.start, c.end);
@@ -58,19 +55,19 @@ fn compare(list: &[u8], at: usize, differing: &mut u64) -> usize {
     if m.end <= c.end {
         return at;
     }
-    if !agrees(coding, message, m.absent) {
+    if !agrees(coding, message, m.absent, out) {
         report::count(b"differs at", at as u64);
         *differing = std::num::wrapping_add_u64(*differing, 1);
     }
     m.end
 }
 
-fn replay(list: &[u8]) {
+fn replay(list: &[u8], out: &mut [u8]) {
     let mut at = 0;
     let mut cases: u64 = 0;
     let mut differing: u64 = 0;
     while at < list.len() {
-        let next = compare(list, at, &mut differing);
+        let next = compare(list, at, out, &mut differing);
         if next <= at {
             report::count(b"cut at", at as u64);
             return;
@@ -85,5 +82,6 @@ fn replay(list: &[u8]) {
 fn main() {
     let mut list = [0u8; LONGEST];
     let n = io::read_full(libc::STDIN_FILENO, &mut list);
-    replay(report::first(&list, n));
+    let mut out = [0u8; ROOM];
+    replay(report::first(&list, n), &mut out);
 }
