@@ -1,0 +1,17 @@
+pub mod Marks
+pub mod Claims
+pub mod Stores
+pub mod Pieces
+pub mod Results
+pub mod Frames
+pub mod Scanning
+pub mod Following
+pub mod Through
+pub mod OursFollow
+pub mod NoHalf
+pub mod Stands
+pub mod Wrong
+pub mod Tight
+pub mod Honest
+pub mod Premise
+pub mod Runs
