@@ -1,0 +1,12 @@
+pub mod Tables
+pub mod TypeLaws
+pub mod HintLaws
+pub mod FragmentLaws
+pub mod ParamLaws
+pub mod AddLaws
+pub mod Added
+pub mod Progress
+pub mod Walking
+pub mod StepLaws
+pub mod Prepared
+pub mod Merged

@@ -1,0 +1,31 @@
+use native.Mathlib.Omega.{arith}
+use Prim.Native.Nat.{_-_}
+use mathlib.Core.Path.{_≡_, refl, sym, _∙_}
+use lib.ListN.{length}
+use borrow.Author.Needs.{needs}
+use Rattle.format.specs.Grammar.{runEnd}
+use Rattle.format.proofs.FragmentLaws.{run-past, run-opens, run-closes, run-goes-on}
+use Rattle.format.proofs.fragments.run_end.Statement.{statement}
+use Rattle.format.proofs.fragments.run_end.Tie as tie
+
+abbrev Inv-loop : tie.InvT-loop
+Inv-loop text at i₀ i = runEnd text at ≡ runEnd text i
+
+abbrev μ-loop : tie.MeasureT-loop
+μ-loop text at i₀ i = length text - i
+
+pub run-end-spec : {M : Type 1} → statement M
+run-end-spec =
+    tie.close
+    (tie.spec
+    Inv-loop
+    μ-loop
+    (λ c. refl)
+    (λ c. search needs)
+    (λ c. let l = c .before .before .before .loop in sym (l .inv ∙ run-opens _ (l .i) (omega arith) (c .if1 .taken)))
+    (λ c. search needs)
+    (λ c. let l = c .before .before .before .before .before .loop in sym (l .inv ∙ run-closes _ (l .i) (omega arith) (c .before .before .if1 .left) (c .if2 .taken)))
+    (λ c. search needs)
+    (λ c. search needs)
+    (λ c. let l = c .before .before .before .before .before .loop in l .inv ∙ run-goes-on _ (l .i) (omega arith) (c .before .before .if1 .left) (c .if2 .left))
+    (λ c. let l = c .before .loop in sym (l .inv ∙ run-past _ (l .i) (omega arith))))

@@ -1,0 +1,5 @@
+pub mod Grammar
+pub mod Pieces
+pub mod Params
+pub mod Steps
+pub mod Examples

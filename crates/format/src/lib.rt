@@ -1,0 +1,88 @@
+// The grammar of format texts (01, "Book"): what stands at a place of a text, and the parameters of a whole text.
+//
+// `next` is the one reader of a text: decoding and text both walk by it. `scan` is FORMAT, or the parameters as decoding wants
+// them: in the order of their positions, each position once.
+mod fragments;
+mod hints;
+mod params;
+mod sift;
+mod types;
+
+pub use fragments::Fragment;
+pub use fragments::Param;
+use fragments::param_at;
+use fragments::run_end;
+pub use hints::Base;
+pub use hints::Clock;
+pub use hints::Hint;
+pub use params::Scanned;
+use params::blanks;
+use params::refused;
+use parts::byte_at;
+use sift::Sifted;
+use sift::finished;
+use sift::step;
+pub use types::Kind;
+pub use types::Width;
+ghost use mathlib.Core.Path.{_≡_};
+ghost use Rattle.format.specs.Grammar.{nextAt};
+ghost use Rattle.format.specs.Params.{scannedOf, scanOf};
+
+// The fragment at a place, where the counter has a value: literal bytes, a parameter, the end, or the place at which the text leaves
+// the grammar.
+pub fn next(text: &[u8], at: usize, counter: usize) -> Fragment
+    ensures { λ r. ⌜ r ≡ nextAt (now (text .entry)) at counter ⌝ }
+{
+    if at >= text.len() {
+        return Fragment::End;
+    }
+    let b = text[at];
+    if b == b'{' {
+        if byte_at(text, at + 1) == b'{' {
+            return Fragment::Literal {
+                from: at,
+                to: at + 1,
+                next: at + 2,
+            };
+        }
+        return param_at(text, at + 1, counter);
+    }
+    if b == b'}' {
+        if byte_at(text, at + 1) == b'}' {
+            return Fragment::Literal {
+                from: at,
+                to: at + 1,
+                next: at + 2,
+            };
+        }
+        return Fragment::Bad(at + 1);
+    }
+    let e = run_end(text, at);
+    Fragment::Literal {
+        from: at,
+        to: e,
+        next: e,
+    }
+}
+
+// The parameters of a text; bad where it is FORMAT.
+pub fn scan(text: &[u8]) -> Scanned
+    ensures { λ r. ⌜ r ≡ scannedOf (scanOf (now (text .entry))) ⌝ }
+{
+    let mut t = Sifted {
+        items: blanks(),
+        count: 0,
+        written: 0,
+        counter: 0,
+        at: 0,
+        bad: false,
+    };
+    while t.at < text.len() {
+        let u = step(text, t);
+        if u.bad {
+            return refused();
+        }
+        t = u;
+    }
+    finished(t)
+}

@@ -1,0 +1,113 @@
+-- Packed tables of names. Assumes nothing.
+use Prim.Native.Nat.{ℕ, suc, _+_, _-_, _<_, _≤_}
+use mathlib.Core.Path.{_≡_, sym, ap, _∙_}
+use mathlib.Core.Bool.{Bool, true, false}
+use mathlib.Core.List.{List, [], _∷_}
+use native.Mathlib.Omega.{arith}
+use lib.ListN.{length, take, drop, length-drop, drop-of-length-le}
+use lib.Seq.{drop-drop}
+use lib.Dec.{eqb}
+use Rattle.parts.specs.Parts.{Bytes, part, span, nextByte, begins, firstName, grow, words}
+use Rattle.parts.specs.declared.Named.{Named}
+use Rattle.parts.specs.declared.Named.the-variants.{Name, NoName}
+use Rattle.parts.proofs.Places.{by-test, span-passed, part-length, nextByte-within}
+use Rattle.parts.proofs.Names.{begins-fits}
+
+-- ---- the first name
+
+module _ (n : Bytes) (ns : List Bytes) (s : Bytes) (at k : ℕ) where
+  pub firstName-here : begins n (drop at s) ≡ true → firstName (n ∷ ns) s at k ≡ Name k (at + length n)
+  unfolding firstName
+  firstName-here e = rw (e, firstName)
+
+  pub firstName-later : begins n (drop at s) ≡ false → firstName (n ∷ ns) s at k ≡ firstName ns s at (k + 1)
+  unfolding firstName
+  firstName-later e = rw (e, firstName)
+
+-- a name that stands at a place ends inside the text
+pub name-inside : (name s : Bytes) (at : ℕ) → begins name (drop at s) ≡ true → 0 < length name → at + length name ≤ length s
+name-inside name s at b h = let l = begins-fits name (drop at s) b in omega (arith, length-drop at s)
+
+-- the number of a name is below how many there are
+pub name-below : (ws : List Bytes) (s : Bytes) (at k₀ k n : ℕ) → firstName ws s at k₀ ≡ Name k n → k < k₀ + length ws
+unfolding firstName
+name-below [] s at k₀ k n e = let z : _≡_ {A = ℕ} 0 1 = cc in absurd (omega arith)
+name-below (w ∷ ws) s at k₀ k n e =
+    by-test (begins w (drop at s))
+    (λ t. let q : Name k₀ (at + length w) ≡ Name k n = sym (firstName-here w ws s at k₀ t) ∙ e in let z : k₀ ≡ k = cc in omega arith)
+    (λ t. let l = name-below ws s at (k₀ + 1) k n (sym (firstName-later w ws s at k₀ t) ∙ e) in omega arith)
+
+-- a name ends at its place or behind it
+pub name-later : (ws : List Bytes) (s : Bytes) (at k₀ k n : ℕ) → firstName ws s at k₀ ≡ Name k n → at ≤ n
+unfolding firstName
+name-later [] s at k₀ k n e = let z : _≡_ {A = ℕ} 0 1 = cc in absurd (omega arith)
+name-later (w ∷ ws) s at k₀ k n e =
+    by-test (begins w (drop at s))
+    (λ t. let q : Name k₀ (at + length w) ≡ Name k n = sym (firstName-here w ws s at k₀ t) ∙ e in let z : at + length w ≡ n = cc in omega arith)
+    (λ t. name-later ws s at (k₀ + 1) k n (sym (firstName-later w ws s at k₀ t) ∙ e))
+
+-- ---- the words of a table
+
+abbrev First : Bytes → Type 0
+First xs = words xs ≡ take (span xs 32) xs ∷ words (drop (span xs 32 + 1) xs)
+
+first-grows : (x : ℕ) (xs w : Bytes) (ws : List Bytes) → eqb x 32 ≡ false → words xs ≡ w ∷ ws → words (x ∷ xs) ≡ (x ∷ w) ∷ ws
+unfolding words grow
+first-grows x xs w ws e h = rw (e, h, words)
+
+grown : (x : ℕ) (xs : Bytes) → eqb x 32 ≡ false → First xs → First (x ∷ xs)
+grown x xs e h =
+    let z : suc (span xs 32) + 1 ≡ suc (span xs 32 + 1) = omega arith in
+    first-grows x xs (take (span xs 32) xs) (words (drop (span xs 32 + 1) xs)) e h ∙ rw (span-passed x xs 32 e, z)
+
+first-word : (xs : Bytes) → 0 < length xs → First xs
+unfolding words span grow
+first-word [] h = absurd (omega arith)
+first-word (x ∷ []) h = by-test (eqb x 32) (λ e. rw (e, words, span)) (λ e. rw (e, words, span))
+first-word (x ∷ y ∷ ys) h =
+    by-test (eqb x 32) (λ e. rw (e, words, span)) (λ e. grown x (y ∷ ys) e (first-word (y ∷ ys) (omega arith)))
+
+pub words-end : (names : Bytes) (from : ℕ) → length names ≤ from → words (drop from names) ≡ []
+unfolding words
+words-end names from h = rw (drop-of-length-le names h)
+
+pub word-within : (names : Bytes) (from e : ℕ) → from < length names → e ≡ nextByte names from 32 → (from ≤ e) × (e ≤ length names)
+word-within names from e l w = let p = nextByte-within names from 32 (omega arith) in (omega arith, omega arith)
+
+pub words-more : (names : Bytes) (from e : ℕ) → from < length names → e ≡ nextByte names from 32 → words (drop from names) ≡ part names from e ∷ words (drop (e + 1) names)
+unfolding nextByte part
+words-more names from e l w =
+    let n : span (drop from names) 32 ≡ e - from = omega arith in
+    let z : from + (e - from + 1) ≡ e + 1 = omega arith in
+    first-word (drop from names) (omega (arith, length-drop from names))
+    ∙ rw n (ap (λ (q : Bytes). take (e - from) (drop from names) ∷ words q) (drop-drop (e - from + 1) from names ∙ ap (λ (j : ℕ). drop j names) z))
+
+-- the search from a name on, which ends at the place e
+module _ (s names : Bytes) (at from k : ℕ) (r : Named) (so : firstName (words (drop from names)) s at k ≡ r) where
+  pub search-ends : length names ≤ from → NoName ≡ r
+  unfolding firstName
+  search-ends h = sym (ap (λ (ws : List Bytes). firstName ws s at k) (words-end names from h)) ∙ so
+
+  module _ (l : from < length names) (e : ℕ) (w : e ≡ nextByte names from 32) (b : Bool) (f : b ≡ begins (take (e - from) (drop from names)) (drop at s)) where
+    opened : firstName (part names from e ∷ words (drop (e + 1) names)) s at k ≡ r
+    opened = sym (ap (λ (ws : List Bytes). firstName ws s at k) (words-more names from e l w)) ∙ so
+
+    sized : length (part names from e) ≡ e - from
+    sized = let p = word-within names from e l w in part-length names from e (p .0) (p .1)
+
+    there : begins (part names from e) (drop at s) ≡ b
+    unfolding part
+    there = sym f
+
+    pub search-finds : b ≡ true → Name k (at + (e - from)) ≡ r
+    search-finds h =
+        ap (λ (n : ℕ). Name k (at + n)) (sym sized)
+        ∙ sym (firstName-here (part names from e) (words (drop (e + 1) names)) s at k (there ∙ h))
+        ∙ opened
+
+    pub search-goes-on : b ≡ false → firstName (words (drop (e + 1) names)) s at (k + 1) ≡ r
+    search-goes-on h = sym (firstName-later (part names from e) (words (drop (e + 1) names)) s at k (there ∙ h)) ∙ opened
+
+    -- the place behind a name is within any bound of the place and of the text
+    pub found-fits : b ≡ true → (most : ℕ) → at ≤ most → length s ≤ most → at + (e - from) ≤ most
+    found-fits h most p q = let z = begins-fits (part names from e) (drop at s) (there ∙ h) in omega (arith, sized, length-drop at s)
