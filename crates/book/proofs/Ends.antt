@@ -1,0 +1,89 @@
+-- The lines of the book, at a place. Assumes nothing.
+use Prim.Native.Nat.{ℕ, zero, suc, _+_, _-_, _<_, _≤_}
+use mathlib.Core.Path.{_≡_, refl, sym, ap, ap₂, _∙_}
+use mathlib.Core.Bool.{true, false}
+use mathlib.Core.List.{List, [], _∷_}
+use native.Mathlib.Omega.{arith}
+use native.Mathlib.Nat.{not-suc-le-zero, le-of-suc-le-suc}
+use lib.ListN.{length, take, drop, getD, drop-of-length-le, length-drop}
+use lib.Seq.{drop-drop}
+use lib.Dec.{eqb}
+use Rattle.parts.specs.Parts.{Bytes, part, span, nextByte}
+use Rattle.parts.proofs.Places.{by-test, at-drop, span-found, span-passed, span-within}
+use Rattle.book.specs.Lines.{Line, line, unclosed, lines, longer}
+use Rattle.book.specs.Steps.{lineEnd}
+
+module _ (x : ℕ) (xs : Bytes) (at : ℕ) where
+  lines-ten : eqb x 10 ≡ true → lines (x ∷ xs) at ≡ line at [] ∷ lines xs (at + 1)
+  unfolding lines
+  lines-ten e = rw (e, lines)
+
+  lines-other : eqb x 10 ≡ false → lines (x ∷ xs) at ≡ longer x at (lines xs (at + 1))
+  unfolding lines
+  lines-other e = rw (e, lines)
+
+-- a line that a byte 10 closes
+closed : (xs : Bytes) (at n : ℕ) → span xs 10 ≡ n → n < length xs → lines xs at ≡ line at (take n xs) ∷ lines (drop (suc n) xs) (at + suc n)
+unfolding longer
+closed [] at n q h = absurd (not-suc-le-zero h)
+closed (x ∷ xs) at zero q h =
+    by-test (eqb x 10) (lines-ten x xs at) (λ e. absurd (let r = span-passed x xs 10 e in let z : ⊥ = omega arith in z))
+closed (x ∷ xs) at (suc n) q h =
+    by-test (eqb x 10) (λ e. absurd (let r = span-found x xs 10 e in let z : ⊥ = omega arith in z))
+    (λ e.
+    let r = span-passed x xs 10 e in
+    let p : at + 1 + suc n ≡ at + suc (suc n) = omega arith in
+    lines-other x xs at e
+    ∙ ap (longer x at) (closed xs (at + 1) n (omega arith) (le-of-suc-le-suc h))
+    ∙ ap (λ (k : ℕ). line at (x ∷ take n xs) ∷ lines (drop (suc n) xs) k) p)
+
+-- bytes that none closes
+open-end : (xs : Bytes) (at : ℕ) → length xs ≤ span xs 10 → 0 < length xs → lines xs at ≡ unclosed ∷ []
+unfolding longer lines
+open-end [] at q h = absurd (not-suc-le-zero h)
+open-end (x ∷ xs) at q h =
+    by-test (eqb x 10) (λ e. absurd (let r = span-found x xs 10 e in let z : ⊥ = omega arith in z))
+    (λ e. lines-other x xs at e ∙ rest xs (omega (arith, span-passed x xs 10 e)) (open-end xs (at + 1)))
+  where
+    rest : (ys : Bytes) → length ys ≤ span ys 10 → (length ys ≤ span ys 10 → 0 < length ys → lines ys (at + 1) ≡ unclosed ∷ []) → longer x at (lines ys (at + 1)) ≡ unclosed ∷ []
+    rest [] q f = refl
+    rest (y ∷ ys) q f = ap (longer x at) (f q (omega arith))
+
+module _ (s : Bytes) (at : ℕ) where
+  pub end-within : at ≤ length s → (at ≤ lineEnd s at) × (lineEnd s at ≤ length s)
+  unfolding nextByte
+  end-within h = let p = span-within (drop at s) 10 in let q = length-drop at s in (omega arith, omega arith)
+
+  pub line-here : at ≤ length s → lineEnd s at < length s
+      → lines (drop at s) at ≡ line at (part s at (lineEnd s at)) ∷ lines (drop (lineEnd s at + 1) s) (lineEnd s at + 1)
+  unfolding part nextByte
+  line-here h l =
+      let q = length-drop at s in
+      let n = span (drop at s) 10 in
+      let d : at + n - at ≡ n = omega arith in
+      let p : at + suc n ≡ at + n + 1 = omega arith in
+      closed (drop at s) at n refl (omega arith)
+      ∙ rw d (ap (λ (t : List Line). line at (take n (drop at s)) ∷ t) (ap₂ lines (drop-drop (suc n) at s ∙ ap (λ (k : ℕ). drop k s) p) p))
+
+  pub line-none : at < length s → length s ≤ lineEnd s at → lines (drop at s) at ≡ unclosed ∷ []
+  unfolding nextByte
+  line-none k l = let q = length-drop at s in open-end (drop at s) at (omega arith) (omega arith)
+
+  pub lines-end : length s ≤ at → lines (drop at s) at ≡ []
+  unfolding lines
+  lines-end h = rw (drop-of-length-le s h)
+
+  pub lines-some : at < length s → lines (drop at s) at ≡ [] → ⊥
+  unfolding longer
+  lines-some h q = some-line (getD s at 0) (drop (at + 1) s) (ap (λ (t : Bytes). lines t at) (sym (at-drop s at h)) ∙ q)
+    where
+      no-nil : {A : Type 0} (a : A) (l : List A) → a ∷ l ≡ [] → ⊥
+      no-nil a l e = let y : _≡_ {A = ℕ} (length (a ∷ l)) 0 = ap length e in omega arith
+
+      longer-some : (x : ℕ) (ls : List Line) → longer x at ls ≡ [] → ⊥
+      longer-some x [] e = no-nil _ _ e
+      longer-some x (unclosed ∷ ls) e = no-nil _ _ e
+      longer-some x (line b t ∷ ls) e = no-nil _ _ e
+
+      some-line : (x : ℕ) (xs : Bytes) → lines (x ∷ xs) at ≡ [] → ⊥
+      some-line x xs q = by-test (eqb x 10) (λ e. no-nil (line at []) (lines xs (at + 1)) (sym (lines-ten x xs at e) ∙ q)) (λ e. longer-some x (lines xs (at + 1)) (sym (lines-other x xs at e) ∙ q))

@@ -1,0 +1,13 @@
+pub mod Ends
+pub mod Fields
+pub mod Judging
+pub mod Entering
+pub mod Tops
+pub mod Verdicts
+pub mod Reading
+pub mod Following
+pub mod Texts
+pub mod Clocks
+pub mod Lookups
+pub mod Pieces
+pub mod Promises

@@ -1,0 +1,102 @@
+// The book: lines of key=value that say what the indexes in a log's messages stand for. `check` judges a book; the
+// other calls read a book that was checked, and judge nothing again. A text is given by its place in the book.
+mod bars;
+mod entries;
+mod lines;
+
+use answer::Refusal;
+use answer::Verdict;
+pub use bars::Place;
+pub use bars::count_bars;
+pub use bars::piece;
+use entries::Head;
+use entries::Read;
+use entries::carries_level;
+use entries::entry_at;
+use entries::heading;
+use lines::next_line;
+use parts::Number;
+ghost use mathlib.Core.Path.{_≡_};
+ghost use Rattle.answer.specs.declared.Verdict.the-variants.{Ok};
+ghost use Rattle.book.specs.Book.{checked, find, clock};
+ghost use Rattle.book.specs.Steps.{TagLine, foundAt};
+
+// Where the text of an entry starts, how long it is, and whether its tag carries a level.
+pub enum Found {
+    Absent,
+    At(usize, usize, bool),
+}
+
+// Where the timestamp's text starts, and how long it is.
+pub enum Clock {
+    No,
+    At(usize, usize),
+}
+
+// Whether bytes are a book.
+pub fn check(book: &[u8]) -> Verdict
+    ensures { λ r. ⌜ r ≡ checked (now (book .entry)) ⌝ }
+{
+    if answer::LIMIT < book.len() {
+        return Verdict::Refused(Refusal::Size);
+    }
+    let Head::To(top) = heading(book) else {
+        return Verdict::Refused(Refusal::Book);
+    };
+    let mut at = top + 1;
+    let mut low = 0;
+    while at < book.len() {
+        let Read::Entry(n, stop) = entry_at(book, at, low) else {
+            return Verdict::Refused(Refusal::Book);
+        };
+        at = stop + 1;
+        low = n + 1;
+    }
+    Verdict::Ok
+}
+
+// Inner: the timestamp's text, where a checked book has a clock.
+pub fn clock_of(book: &[u8]) -> Clock
+    requires { ⌜ checked (now book) ≡ Ok ⌝ }
+    ensures { λ r. ⌜ r ≡ clock (now (book .entry)) ⌝ }
+{
+    let second = next_line(book, 0);
+    let third = next_line(book, second);
+    if parts::same(&book[second + 6..third - 1], b"yes") {
+        let start = third + 10;
+        return Clock::At(start, parts::next_byte(book, third, 10) - start);
+    }
+    Clock::No
+}
+
+// Inner: the entry with an index, in a checked book. It goes from entry to entry by line ends and indexes.
+pub fn find(book: &[u8], index: usize) -> Found
+    requires { ⌜ checked (now book) ≡ Ok ⌝ }
+    ensures { λ r. ⌜ r ≡ find (now (book .entry)) index ⌝ }
+{
+    let mut at = next_line(book, next_line(book, next_line(book, 0)));
+    while at < book.len() {
+        let Number::Num(n, stop) = parts::number_at(book, at + 6, 65535) else {
+            return Found::Absent;
+        };
+        if index < n {
+            return Found::Absent;
+        }
+        if index == n {
+            return text_of(book, stop + 1);
+        }
+        at = next_line(book, next_line(book, stop + 1));
+    }
+    Found::Absent
+}
+
+// The text of the entry whose tag line starts at a place.
+fn text_of(book: &[u8], at: usize) -> Found
+    requires { ⌜ TagLine (now book) at ⌝ }
+    ensures { λ r. ⌜ r ≡ foundAt (now (book .entry)) at ⌝ }
+{
+    let stop = parts::next_byte(book, at, 10);
+    let start = stop + 6;
+    let level = carries_level(&book[at + 4..stop]);
+    Found::At(start, parts::next_byte(book, stop + 1, 10) - start, level)
+}

@@ -1,0 +1,30 @@
+use Prim.Native.Nat.{_-_}
+use native.Mathlib.Omega.{arith}
+use borrow.Author.Needs.{needs}
+use lib.ListN.{length}
+use Rattle.parts.proofs.Places.{nextByte-within}
+use Rattle.try_book.proofs.rules.each_index.Statement.{statement}
+use Rattle.try_book.proofs.rules.each_index.Tie as tie
+
+abbrev Inv-loop : tie.InvT-loop
+Inv-loop indexes from₀ from = Unit
+
+abbrev μ-loop : tie.MeasureT-loop
+μ-loop indexes from₀ from = length indexes - from
+
+pub each-index-spec : {M : Type 1} → statement M
+each-index-spec =
+    tie.close
+    (tie.spec
+    Inv-loop
+    μ-loop
+    (λ c. search needs)
+    (λ c κs. search needs)
+    (λ c. let p = nextByte-within (c .before .before .before .before .args .indexes .now) (c .before .before .loop .from) 44 (omega arith) in let e = c .next-byte .ensures in omega arith)
+    (λ c. let p = nextByte-within (c .before .before .before .before .args .indexes .now) (c .before .before .loop .from) 44 (omega arith) in let e = c .next-byte .ensures in omega arith)
+    (λ c. let p = nextByte-within (c .before .before .before .before .args .indexes .now) (c .before .before .loop .from) 44 (omega arith) in let e = c .next-byte .ensures in omega arith)
+    (λ c κs. search needs)
+    (λ c. let p = nextByte-within (c .before .before .before .before .before .before .args .indexes .now) (c .before .before .before .before .loop .from) 44 (omega arith) in let e = c .before .before .next-byte .ensures in omega arith)
+    (λ c. let p = nextByte-within (c .before .before .before .before .before .before .args .indexes .now) (c .before .before .before .before .loop .from) 44 (omega arith) in let e = c .before .before .next-byte .ensures in omega arith)
+    (λ c. search needs)
+    (λ c. search needs))
