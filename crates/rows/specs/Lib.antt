@@ -1,0 +1,5 @@
+pub mod Kinds
+pub mod Rows
+pub mod Decoding
+pub mod Shown
+pub mod Examples
