@@ -36,6 +36,7 @@ fn run_length(x: u8) -> usize
     if x < 255 { (x - 128) as usize + 7 } else { 134 }
 }
 
+// Inner: how long the message of a coding is, if the blocks fit.
 pub fn measure(coding: &[u8]) -> Measured
     requires { ⌜ length (now coding) ≤ limit ⌝ }
     ensures { λ r. ⌜ r ≡ measured (dec (reverse (now (coding .entry))) 0 0) ⌝ }
@@ -96,7 +97,7 @@ fn copy(coding: &[u8], from: usize, n: usize, out: &mut [u8], to: usize)
     }
 }
 
-// Writes the seven bytes of a mask below place j, and answers the place in the coding before its data.
+// Writes the seven bytes of a mask below place `top`, and answers the place in the coding before its data.
 fn spread(coding: &[u8], place: usize, x: u8, out: &mut [u8], top: usize) -> usize
     requires { ⌜ place ≤ length (now coding) ⌝ }
     requires { ⌜ top ≤ length (now out) ⌝ }
@@ -119,7 +120,7 @@ fn spread(coding: &[u8], place: usize, x: u8, out: &mut [u8], top: usize) -> usi
     i
 }
 
-// Writes the message of a coding that was measured.
+// Inner: writes the message of a coding that was measured.
 pub fn write(coding: &[u8], out: &mut [u8], total: usize)
     requires { ⌜ measured (dec (reverse (now coding)) 0 0) ≡ Measured.Length total ⌝ }
     requires { ⌜ total ≤ length (now out) ⌝ }

@@ -108,6 +108,7 @@ fn close(k: u8, mask: u8) -> Turned
     closed(1, 128 + (k - 7), 0)
 }
 
+// Inner: how long the coding of a message is.
 pub fn measure(message: &[u8]) -> usize
     requires { ⌜ length (now message) ≤ limit ⌝ }
     ensures { λ r. ⌜ r ≡ length (encode (now (message .entry))) ⌝ }
@@ -145,7 +146,7 @@ fn emit(out: &mut [u8], o: usize, t: Turned) -> usize
     o + 2
 }
 
-// Writes the coding of a message that was measured.
+// Inner: writes the coding of a message that was measured.
 pub fn write(message: &[u8], out: &mut [u8])
     requires { ⌜ length (encode (now message)) ≤ length (now out) ⌝ }
     ensures { λ _. ⌜ now (out .exit) ≡ encode (now (message .entry)) ++ drop (length (encode (now (message .entry)))) (now (out .entry)) ⌝ }

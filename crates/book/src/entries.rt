@@ -83,7 +83,7 @@ fn is_tag(tag: &[u8]) -> bool
     )
 }
 
-// The entry at a place, with an index of at least `low`.
+// Inner: the entry at a place, with an index of at least `low`.
 pub fn entry_at(book: &[u8], at: usize, low: usize) -> Read
     requires { ⌜ at ≤ length (now book) ⌝ }
     ensures { λ r. ⌜ r ≡ entryAt (now (book .entry)) at low ⌝ }

@@ -16,7 +16,7 @@ pub enum Trio {
     At(usize, usize, usize, usize, usize, usize),
 }
 
-// Where the line after the one at a place starts.
+// Inner: where the line after the one at a place starts.
 pub fn next_line(book: &[u8], at: usize) -> usize
     requires { ⌜ at ≤ length (now book) ⌝ }
     ensures { λ r. ⌜ r ≡ lineEnd (now (book .entry)) at + 1 ⌝ }
@@ -24,7 +24,7 @@ pub fn next_line(book: &[u8], at: usize) -> usize
     parts::next_byte(book, at, 10) + 1
 }
 
-// The value of the line at a place, if it is closed and has the key.
+// Inner: the value of the line at a place, if it is closed and has the key.
 pub fn field_at(book: &[u8], at: usize, key: &[u8]) -> Field
     requires { ⌜ at ≤ length (now book) ⌝ }
     ensures { λ r. ⌜ r ≡ fieldAt (now (book .entry)) at (now (key .entry)) ⌝ }
@@ -39,7 +39,7 @@ pub fn field_at(book: &[u8], at: usize, key: &[u8]) -> Field
     Field::Bad
 }
 
-// The values of three lines with these keys.
+// Inner: the values of three lines with these keys.
 pub fn three_at(book: &[u8], at: usize, k: &[u8], l: &[u8], m: &[u8]) -> Trio
     requires { ⌜ at ≤ length (now book) ⌝ }
     ensures { λ r. ⌜ r ≡ threeAt (now (book .entry)) at (now (k .entry)) (now (l .entry)) (now (m .entry)) ⌝ }

@@ -69,7 +69,7 @@ fn took(t: Sifted, p: Param, counted: bool, next: usize) -> Sifted
     }
 }
 
-// The scan with the fragment at its place taken.
+// Inner: the scan with the fragment at its place taken.
 pub fn step(text: &[u8], t: Sifted) -> Sifted
     requires { ⌜ Fine t × (t .at < length (now text)) ⌝ }
     ensures { λ r. ⌜ Stepped (now (text .entry)) t r ⌝ }
@@ -101,7 +101,7 @@ pub fn step(text: &[u8], t: Sifted) -> Sifted
     }
 }
 
-// The end of a scan: no position may be missing.
+// Inner: the end of a scan: no position may be missing.
 pub fn finished(t: Sifted) -> Scanned
     requires { ⌜ Fine t ⌝ }
     ensures { λ r. ⌜ r ≡ scannedOf (complete (some (take (t .count) (t .items)))) ⌝ }

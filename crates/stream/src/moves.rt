@@ -5,7 +5,7 @@ ghost use mathlib.Core.List.{_++_};
 ghost use lib.ListN.{length, take, drop};
 ghost use Rattle.stream.specs.Calls.{storeOf};
 
-// Leaves the first `end` bytes of a store, and zeros behind them.
+// Inner: leaves the first `end` bytes of a store, and zeros behind them.
 pub fn clear(store: &mut [u8], end: usize)
     requires { ⌜ end ≤ length (now store) ⌝ }
     ensures { λ _. ⌜ now (store .exit) ≡ storeOf (length (now (store .entry))) (take end (now (store .entry))) ⌝ }
@@ -13,7 +13,7 @@ pub fn clear(store: &mut [u8], end: usize)
     answer::zero_bytes(&mut store[end..]);
 }
 
-// Puts more bytes behind the held ones, and zeros behind those.
+// Inner: puts more bytes behind the held ones, and zeros behind those.
 pub fn append(store: &mut [u8], held: usize, more: &[u8])
     requires { ⌜ held + length (now more) ≤ length (now store) ⌝ }
     ensures { λ _. ⌜ now (store .exit) ≡ storeOf (length (now (store .entry))) (take held (now (store .entry)) ++ now (more .entry)) ⌝ }
@@ -22,7 +22,7 @@ pub fn append(store: &mut [u8], held: usize, more: &[u8])
     clear(store, held + more.len());
 }
 
-// Moves n bytes, those from `from` on, to the front.
+// Inner: moves n bytes, those from `from` on, to the front.
 pub fn shift(store: &mut [u8], from: usize, n: usize)
     requires { ⌜ from + n ≤ length (now store) ⌝ }
     ensures { λ _. ⌜ now (store .exit) ≡ take n (drop from (now (store .entry))) ++ drop n (now (store .entry)) ⌝ }
