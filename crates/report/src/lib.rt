@@ -1,4 +1,7 @@
-// What the test programs write with: words, numbers and bytes, on standard output.
+// What the test programs share: words, numbers and bytes written on standard output; the cases that they read (recorded.rt, cases.rt); what
+// is left of lent words and bytes (lent.rt).
+pub mod cases;
+pub mod lent;
 pub mod recorded;
 
 use libc::STDOUT_FILENO;

@@ -12,7 +12,10 @@ use Rattle.format.specs.Grammar as grammar
 use Rattle.format.specs.Pieces as pieces
 use Rattle.format.specs.Params as params
 use Rattle.values.specs.Values as values
+use Rattle.answer.specs.Answer.{zeros}
 use Rattle.rows.specs.Rows.{Row}
+use Rattle.rows.specs.Answers.{capOf, decodeOf, decodedOf, rowsAfter}
+use Rattle.rows.specs.declared.frames.Decoded.the-variants.{Refused}
 use Rattle.rows.specs.Decoding.{Given, indexAt, innerText, variantIn, variantAt, istrOf, formatOf, elementOf, elementsOf, sliceOf, countedOf, itemsOf, sequenceOf, valueOf, argumentsOf, textOf, Frame, none-of, frame, frameOf}
 
 unfoldable own : parts.Bytes
@@ -71,3 +74,21 @@ frames = refl
 no-row : by clocked (1 ∷ 0 ∷ 0 ∷ 0 ∷ 0 ∷ 0 ∷ []) 1 ≡ none-of refusal.Rows
 unfolding clocked parts.byte parts.part parts.span parts.nextByte parts.same parts.begins parts.firstName parts.digitOf parts.digits parts.numberAt utf8.valid utf8.formed utf8.follow utf8.within utf8.table utf8.isScalar lines.longer lines.lines lines.value book.meaning book.isText book.indexOf book.plain book.levelled book.among book.level book.values book.judged book.entry book.entries book.stamp book.header book.book book.bookOf book.lookup book.find book.clock book.textAt bars.bars bars.wider bars.pieces bars.pieceOf grammar.names grammar.meaning grammar.types grammar.arrays grammar.kindNo grammar.arrayNo grammar.bitsTo grammar.bitsAt grammar.spaced grammar.countAt grammar.arrayAt grammar.typeAt grammar.typedAt grammar.hints grammar.bases grammar.hintNo grammar.baseNo grammar.padAt grammar.shapedAt grammar.hintAt grammar.hintedAt grammar.positionAt grammar.paramAt grammar.plain grammar.runEnd grammar.nextAt pieces.walk pieces.piecesFrom pieces.pieces params.asked params.meetOf params.addTo params.gather params.inOrder params.prepared params.scanOf values.little values.inWords values.unsignedAt values.extended values.signedAt values.boolAt values.charAt values.bytesAt values.sliceAt values.judged values.strAt values.runTo values.preformattedAt values.widthOf values.bitsWidth values.bitsAt indexAt innerText variantIn variantAt istrOf formatOf elementOf elementsOf sliceOf countedOf itemsOf sequenceOf valueOf argumentsOf textOf frameOf
 no-row = refl
+
+-- a slice of 34 words has room for 8 rows and keeps two words behind them, and a long one has room for 1,024
+capacities : map capOf (0 ∷ 3 ∷ 34 ∷ 4096 ∷ 5000 ∷ []) ≡ 0 ∷ 0 ∷ 8 ∷ 1024 ∷ 1024 ∷ []
+unfolding capOf
+capacities = refl
+
+-- what lies behind the rows stays, and a refusal leaves zeros
+words-kept : rowsAfter (frame 0 (row 2 5 0 0 ∷ []) 3) (9 ∷ 9 ∷ 9 ∷ 9 ∷ 7 ∷ 8 ∷ []) ≡ 2 ∷ 5 ∷ 0 ∷ 0 ∷ 7 ∷ 8 ∷ []
+words-kept = refl
+
+words-zeroed : rowsAfter (none-of refusal.Eof) (9 ∷ 9 ∷ 9 ∷ []) ≡ 0 ∷ 0 ∷ 0 ∷ []
+unfolding zeros
+words-zeroed = refl
+
+-- BOOK, whatever the message
+no-book : decodedOf (decodeOf (parts.bytes "book=2\n") (1 ∷ []) 8) ≡ Refused refusal.Book
+unfolding decodeOf parts.byte parts.part parts.span parts.nextByte parts.same parts.begins lines.longer lines.lines lines.value book.checked book.bookOf book.book
+no-book = refl

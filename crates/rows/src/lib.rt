@@ -1,9 +1,60 @@
 // Messages decoded into rows of four words, and the strings that rows name.
 //
-// So far the strings: `string` shows what a row's words name, a part of the message or of the book. The definitions of decoding stand in
-// specs/Decoding.antt.
+// `decode` checks the book and decodes a message by it; `decode_checked` does so by a book that was checked. `string` shows what a row's
+// words name, a part of the message or of the book.
+mod decoding;
+mod frames;
+mod kinds;
+mod placing;
+mod reading;
 mod strings;
 
+ghost use mathlib.Core.Path.{_≡_};
+ghost use lib.ListN.{length};
+ghost use Rattle.answer.specs.Answer.{zeros};
+ghost use Rattle.answer.specs.declared.Verdict.the-variants.{Ok};
+ghost use Rattle.book.specs.Book.{checked};
+ghost use Rattle.rows.specs.Decoding.{frameOf};
+ghost use Rattle.rows.specs.Answers.{given, decodeOf, decodedOf, rowsAfter};
+use answer::Refusal;
+use answer::Verdict;
+pub use frames::Decoded;
+use frames::frame;
 pub use strings::Shown;
 pub use strings::shown_at;
 pub use strings::string;
+
+// A refusal: the rows are zeroed, and the refusal answered.
+fn refuse(rows: &mut [u64], r: Refusal) -> Decoded
+    ensures { λ a. ⌜ a ≡ Decoded.Refused r ⌝ }
+    ensures { λ _. ⌜ now (rows .exit) ≡ zeros (length (now (rows .entry))) ⌝ }
+{
+    answer::zero_words(rows);
+    Decoded::Refused(r)
+}
+
+// Inner: a message decoded by a checked book, however long the message is.
+pub fn decode_checked(book: &[u8], message: &[u8], rows: &mut [u64]) -> Decoded
+    requires { ⌜ checked (now book) ≡ Ok ⌝ }
+    ensures { λ r. ⌜ r ≡ decodedOf (frameOf (given (now (book .entry)) (now (message .entry)) (length (now (rows .entry))))) ⌝ }
+    ensures { λ _. ⌜ now (rows .exit) ≡ rowsAfter (frameOf (given (now (book .entry)) (now (message .entry)) (length (now (rows .entry))))) (now (rows .entry)) ⌝ }
+{
+    match frame(book, message, rows) {
+        Decoded::Done(stamp, all, consumed) => Decoded::Done(stamp, all, consumed),
+        Decoded::Refused(r) => refuse(rows, r),
+    }
+}
+
+// A message decoded by a book.
+pub fn decode(book: &[u8], message: &[u8], rows: &mut [u64]) -> Decoded
+    ensures { λ r. ⌜ r ≡ decodedOf (decodeOf (now (book .entry)) (now (message .entry)) (length (now (rows .entry)))) ⌝ }
+    ensures { λ _. ⌜ now (rows .exit) ≡ rowsAfter (decodeOf (now (book .entry)) (now (message .entry)) (length (now (rows .entry)))) (now (rows .entry)) ⌝ }
+{
+    if answer::LIMIT < message.len() {
+        return refuse(rows, Refusal::Size);
+    }
+    match book::check(book) {
+        Verdict::Ok => decode_checked(book, message, rows),
+        Verdict::Refused(r) => refuse(rows, r),
+    }
+}

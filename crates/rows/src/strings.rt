@@ -1,16 +1,9 @@
 // What a row's words name: a part of the message, or of the book.
 ghost use mathlib.Core.Path.{_≡_};
 ghost use Rattle.rows.specs.Shown.{nothing, inMessage, inBook, shownOf, bytesOf};
+use crate::kinds;
 use answer::Verdict;
 use book::Found;
-
-const STR: u64 = 6;
-
-const ISTR: u64 = 7;
-
-const BYTES: u64 = 12;
-
-const PREFORMATTED: u64 = 14;
 
 // Where a part stands, stored in the book or in the message, and how many bytes it has.
 pub struct Shown {
@@ -69,16 +62,16 @@ fn in_book(book: &[u8], index: u64) -> Shown
 pub fn shown_at(message: &[u8], book: &[u8], kind: u64, a: u64, b: u64) -> Shown
     ensures { λ r. ⌜ r ≡ shownOf (now (message .entry)) (now (book .entry)) kind a b ⌝ }
 {
-    if kind == ISTR {
+    if kind == kinds::ISTR {
         return in_book(book, a);
     }
-    if kind == STR {
+    if kind == kinds::STR {
         return in_message(message, a, b);
     }
-    if kind == BYTES {
+    if kind == kinds::BYTES {
         return in_message(message, a, b);
     }
-    if kind == PREFORMATTED {
+    if kind == kinds::PREFORMATTED {
         return in_message(message, a, b);
     }
     empty()

@@ -9,8 +9,9 @@ use borrow.Author.Tests.{lt-ltb, le-ltb, leb-true, le-leb, lt-leb}
 use Rattle.parts.specs.Parts.{Bytes, byte, part, nextByte}
 use Rattle.parts.proofs.Places.{by-test, nextByte-within}
 use Rattle.utf8.specs.Utf8.{valid, isScalar}
-use Rattle.values.specs.Values.{little, inWords, unsignedAt, extended, signedAt, boolAt, charAt, bytesAt, sliceAt, judged, strAt, runTo, preformattedAt, widthOf, bitsWidth, bitsAt}
+use Rattle.values.specs.Values.{little, inWords, unsignedAt, countAt, extended, signedAt, boolAt, charAt, bytesAt, sliceAt, judged, strAt, runTo, preformattedAt, widthOf, bitsWidth, bitsAt}
 use Rattle.values.specs.Steps.{Holds, Inside}
+use Rattle.values.specs.declared.Count.the-variants as count
 use Rattle.values.specs.declared.Read.{Read}
 use Rattle.values.specs.declared.Read.the-variants.{Value, Short, Bad}
 use Rattle.values.specs.declared.Words.{Words}
@@ -29,6 +30,14 @@ module _ (s : Bytes) (at w : ℕ) where
   pub unsigned-value : leb (at + w) (length s) ≡ true → (v : Words) → Holds (little s at w) v → Value (v .low) (v .high) (at + w) ≡ unsignedAt s at w
   unfolding unsignedAt
   unsigned-value b v h = rw (b, unsignedAt) (in-words (little s at w) (at + w) v h)
+
+  pub count-short : leb (at + w) (length s) ≡ false → count.Short ≡ countAt s at w
+  unfolding countAt
+  count-short b = rw (b, countAt)
+
+  pub count-is : leb (at + w) (length s) ≡ true → (v : ℕ) → v ≡ little s at w → count.Is v (at + w) ≡ countAt s at w
+  unfolding countAt
+  count-is b v e = rw (b, countAt) (ap (λ (x : ℕ). count.Is x (at + w)) e)
 
   pub signed-short : leb (at + w) (length s) ≡ false → Short ≡ signedAt s at w
   unfolding signedAt

@@ -6,6 +6,8 @@ use lib.ListN.{length}
 use lib.Dec.{leb, ltb}
 use Rattle.parts.specs.Parts.{Bytes, byte, part, nextByte}
 use Rattle.utf8.specs.Utf8.{valid, isScalar}
+use Rattle.values.specs.declared.Count.{Count}
+use Rattle.values.specs.declared.Count.the-variants as count
 use Rattle.values.specs.declared.Read.{Read}
 use Rattle.values.specs.declared.Read.the-variants.{Value, Short, Bad}
 
@@ -23,6 +25,10 @@ inWords v next = Value (v % 2 ^ 64) (v / 2 ^ 64) next
 -- an unsigned number of w bytes; f32, f64 (their bits) and an index are read alike
 unfoldable pub unsignedAt : Bytes → ℕ → ℕ → Read
 unsignedAt s at w = elim (leb (at + w) (length s)) [ true ↦ inWords (little s at w) (at + w) | false ↦ Short ]
+
+-- the same in one word, as an index, a count or a variant is used
+unfoldable pub countAt : Bytes → ℕ → ℕ → Count
+countAt s at w = elim (leb (at + w) (length s)) [ true ↦ count.Is (little s at w) (at + w) | false ↦ count.Short ]
 
 -- the 128 bits of a signed number of w bytes: its own, and above them copies of the highest
 unfoldable pub extended : ℕ → ℕ → ℕ

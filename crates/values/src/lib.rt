@@ -5,7 +5,7 @@ ghost use mathlib.Core.Path.{_≡_};
 ghost use Prim.Native.Nat.{_+_, _-_, _*_, _/_, _%_, _^_, _≤_, _<_};
 ghost use lib.ListN.{length};
 ghost use lib.Dec.{leb};
-ghost use Rattle.values.specs.Values.{little, unsignedAt, extended, signedAt, boolAt, charAt, bytesAt, sliceAt, judged, strAt, preformattedAt};
+ghost use Rattle.values.specs.Values.{little, unsignedAt, countAt, extended, signedAt, boolAt, charAt, bytesAt, sliceAt, judged, strAt, preformattedAt};
 ghost use Rattle.values.specs.Steps.{Holds, Inside};
 
 pub mod bits;
@@ -15,6 +15,12 @@ pub enum Read {
     Value(u64, u64, usize),
     Short,
     Bad,
+}
+
+// A number of one word, and the place behind it.
+pub enum Count {
+    Is(u64, usize),
+    Short,
 }
 
 struct Words {
@@ -81,6 +87,17 @@ pub fn unsigned_at(message: &[u8], at: usize, w: usize) -> Read
     }
     let v = two_words(message, at, w);
     Read::Value(v.low, v.high, at + w)
+}
+
+// Inner: an index, a count or a variant: a number of at most 8 bytes in one word.
+pub fn count_at(message: &[u8], at: usize, w: usize) -> Count
+    requires { ⌜ w ≤ 8 ⌝ }
+    ensures { λ r. ⌜ r ≡ countAt (now (message .entry)) at w ⌝ }
+{
+    if !stand(message, at, w) {
+        return Count::Short;
+    }
+    Count::Is(word(message, at, w), at + w)
 }
 
 fn half_of(w: usize) -> u64

@@ -1,8 +1,8 @@
 use Prim.Native.Nat.{_-_, _≤_}
 use borrow.Author.Needs.{needs}
 use native.Mathlib.Omega.{arith}
-use Rattle.try_rows.proofs.others.Statement.{statement}
-use Rattle.try_rows.proofs.others.Tie as tie
+use Rattle.try_rows.proofs.strings.others.Statement.{statement}
+use Rattle.try_rows.proofs.strings.others.Tie as tie
 
 abbrev Inv-loop : tie.InvT-loop
 Inv-loop book kind₀ kind = kind ≤ 16

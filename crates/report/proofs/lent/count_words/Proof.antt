@@ -1,0 +1,27 @@
+use Prim.Native.Nat.{_-_}
+use native.Mathlib.Omega.{arith}
+use lib.ListN.{length}
+use borrow.Author.Needs.{needs}
+use Rattle.report.proofs.lent.count_words.Statement.{statement}
+use Rattle.report.proofs.lent.count_words.Tie as tie
+
+abbrev Inv-loop : tie.InvT-loop
+Inv-loop rows from word n₀ i₀ n i = Unit
+
+abbrev μ-loop : tie.MeasureT-loop
+μ-loop rows from word n₀ i₀ n i = length rows - i
+
+pub count-words-spec : {M : Type 1} → statement M
+count-words-spec =
+    tie.close
+    (tie.spec
+    Inv-loop
+    μ-loop
+    (λ c. tt)
+    (λ c. search needs)
+    (λ c. omega arith)
+    (λ c κs. search needs)
+    (λ c. search needs)
+    (λ c. omega arith)
+    (λ c. tt)
+    (λ c. tt))
