@@ -37,7 +37,7 @@ fn is_printable(b: u8) -> bool
 }
 
 // A byte of a byte string.
-fn put_escaped(out: &mut [u8], at: usize, b: u8) -> usize
+pub fn put_escaped(out: &mut [u8], at: usize, b: u8) -> usize
     ensures { λ r. ⌜ Put (now (out .entry)) at (escaped b) (now (out .exit)) r ⌝ }
 {
     let name = letter(b);

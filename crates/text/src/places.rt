@@ -1,0 +1,123 @@
+// Where the text that a row shows stands in the book.
+use crate::hints::Sort;
+use crate::hints::sort_of;
+use crate::walk::FORMAT;
+use crate::walk::is_item;
+use crate::walk::next;
+use crate::walk::word;
+use book::Found;
+use book::Place;
+use format::Hint;
+use format::Kind;
+ghost use mathlib.Core.Path.{_≡_};
+ghost use mathlib.Core.Bool.{false, _&&_};
+ghost use lib.Dec.{eqb};
+ghost use Rattle.answer.specs.declared.Verdict.the-variants.{Ok};
+ghost use Rattle.book.specs.Book.{checked};
+ghost use Rattle.parts.specs.Parts.{bytes, same};
+ghost use Rattle.format.specs.declared.types.Kind.the-variants as kind;
+ghost use Rattle.text.specs.Hints.{sortOf};
+ghost use Rattle.text.specs.Leaves.{interned};
+ghost use Rattle.text.specs.Text.{isItem, chosen, shownBy, someByte, isQuoted};
+ghost use Rattle.text.specs.Marks.{Stands};
+
+fn nowhere() -> Place
+    ensures { λ r. ⌜ r ≡ record { start = 0; stop = 0 } ⌝ }
+{
+    Place { start: 0, stop: 0 }
+}
+
+// Inner: the text of an entry without a level, in a checked book, and nothing for any other index.
+pub fn stored(book: &[u8], index: u64) -> Place
+    requires { ⌜ checked (now book) ≡ Ok ⌝ }
+    ensures { λ r. ⌜ Stands (now (book .entry)) (interned (now (book .entry)) index) r ⌝ }
+{
+    let Found::At(start, size, level) = book::find(book, index as usize) else {
+        return nowhere();
+    };
+    if level {
+        return nowhere();
+    }
+    Place {
+        start,
+        stop: start + size,
+    }
+}
+
+// A variant's piece of a text.
+pub fn variant(text: &[u8], k: u64) -> Place
+    ensures { λ r. ⌜ Stands (now (text .entry)) (chosen false (now (text .entry)) k) r ⌝ }
+{
+    if k == 0 {
+        return book::piece(text, 0);
+    }
+    if (book::count_bars(text) as u64) < k {
+        return nowhere();
+    }
+    book::piece(text, k as usize)
+}
+
+// Inner: the text that a row shows, seen as a type.
+pub fn shown_text(book: &[u8], rows: &[u64], row: usize, seen: Kind) -> Place
+    requires { ⌜ checked (now book) ≡ Ok ⌝ }
+    ensures { λ r. ⌜ Stands (now (book .entry)) (shownBy (now (book .entry)) (now (rows .entry)) row seen) r ⌝ }
+{
+    let whole = stored(book, word(rows, row, 1));
+    if is_whole(seen, word(rows, row, 0)) {
+        return whole;
+    }
+    let start = whole.start;
+    let stop = whole.stop;
+    let p = variant(&book[start..stop], word(rows, row, 2));
+    Place {
+        start: start + p.start,
+        stop: start + p.stop,
+    }
+}
+
+// Is the text of a row with this kind, seen as this type, shown whole?
+pub fn is_whole(seen: Kind, kind: u64) -> bool
+    ensures { λ r. ⌜ r ≡ (isItem seen && eqb kind 8) ⌝ }
+{
+    if is_item(seen) { kind == FORMAT } else { false }
+}
+
+// Is the text of an element that of a byte?
+fn is_byte(book: &[u8], rows: &[u64], row: usize) -> bool
+    requires { ⌜ checked (now book) ≡ Ok ⌝ }
+    ensures { λ r. ⌜ r ≡ same (shownBy (now (book .entry)) (now (rows .entry)) row kind.Format) (bytes "{=u8}") ⌝ }
+{
+    let p = shown_text(book, rows, row, Kind::Format);
+    let start = p.start;
+    let stop = p.stop;
+    parts::same(&book[start..stop], b"{=u8}")
+}
+
+// Inner: has one of n elements the text of a byte?
+pub fn some_byte(book: &[u8], rows: &[u64], n: u64, first: usize) -> bool
+    requires { ⌜ checked (now book) ≡ Ok ⌝ }
+    ensures { λ r. ⌜ r ≡ someByte (now (book .entry)) (now (rows .entry)) n first ⌝ }
+{
+    let mut row = first;
+    let mut left = n;
+    while 0 < left {
+        if is_byte(book, rows, row) {
+            return true;
+        }
+        row = next(rows, row);
+        left -= 1;
+    }
+    false
+}
+
+// Inner: is a list of n elements under a hint a byte string?
+pub fn is_quoted(book: &[u8], rows: &[u64], h: Hint, n: u64, first: usize) -> bool
+    requires { ⌜ checked (now book) ≡ Ok ⌝ }
+    ensures { λ r. ⌜ r ≡ isQuoted (sortOf h) (now (book .entry)) (now (rows .entry)) n first ⌝ }
+{
+    match sort_of(h) {
+        Sort::Quoted => some_byte(book, rows, n, first),
+        Sort::Debugged => false,
+        Sort::Other => false,
+    }
+}
