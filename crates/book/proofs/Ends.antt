@@ -6,8 +6,9 @@ use mathlib.Core.List.{List, [], _∷_}
 use native.Mathlib.Omega.{arith}
 use native.Mathlib.Nat.{not-suc-le-zero, le-of-suc-le-suc}
 use lib.ListN.{length, take, drop, getD, drop-of-length-le, length-drop}
-use lib.Seq.{drop-drop}
+use lib.Seq.{drop-drop, getD-drop}
 use lib.Dec.{eqb}
+use borrow.Author.Tests.{eqb-true}
 use Rattle.parts.specs.Parts.{Bytes, part, span, nextByte}
 use Rattle.parts.proofs.Places.{by-test, at-drop, span-found, span-passed, span-within}
 use Rattle.book.specs.Lines.{Line, line, unclosed, lines, longer}
@@ -87,3 +88,14 @@ module _ (s : Bytes) (at : ℕ) where
 
       some-line : (x : ℕ) (xs : Bytes) → lines (x ∷ xs) at ≡ [] → ⊥
       some-line x xs q = by-test (eqb x 10) (λ e. no-nil (line at []) (lines xs (at + 1)) (sym (lines-ten x xs at e) ∙ q)) (λ e. longer-some x (lines xs (at + 1)) (sym (lines-other x xs at e) ∙ q))
+
+-- the byte that closes a line is a 10
+closing : (xs : Bytes) (b : ℕ) → span xs b < length xs → getD xs (span xs b) 0 ≡ b
+closing [] b h = absurd (not-suc-le-zero h)
+closing (x ∷ xs) b h =
+    by-test (eqb x b) (λ e. rw (span-found x xs b e) (eqb-true x b e))
+    (λ e. let p = span-passed x xs b e in rw p (closing xs b (omega arith)))
+
+pub line-closed : (s : Bytes) (at : ℕ) → at ≤ length s → lineEnd s at < length s → getD s (lineEnd s at) 0 ≡ 10
+unfolding nextByte
+line-closed s at h k = sym (getD-drop at s (span (drop at s) 10) 0) ∙ closing (drop at s) 10 (omega (arith, length-drop at s))

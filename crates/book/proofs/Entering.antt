@@ -8,16 +8,16 @@ use native.Mathlib.Omega.{arith}
 use lib.ListN.{length, drop}
 use lib.Dec.{leb}
 use borrow.Author.Tests.{le-leb, lt-leb, leb-true, leb-false}
-use Rattle.parts.specs.Parts.{Bytes, bytes, part}
+use Rattle.parts.specs.Parts.{Bytes, bytes, byte, part}
 use Rattle.parts.proofs.Places.{by-test, never}
-use Rattle.book.specs.Lines.{_then_, Line, lines}
+use Rattle.book.specs.Lines.{_then_, Line, lines, Part}
 use Rattle.book.specs.Book.{Values, values, Entry, judged, entry, entries, isText, indexOf, level}
 use Rattle.book.specs.Steps.{lineEnd, threeAt, valuesAt, isSome, entered, entryAt}
 use Rattle.book.specs.declared.lines.Trio.the-variants as trio
 use Rattle.book.specs.declared.entries.Read.{Read}
 use Rattle.book.specs.declared.entries.Read.the-variants as read
 use Rattle.book.proofs.Ends.{lines-some, lines-end}
-use Rattle.book.proofs.Fields.{firstThree, three, not-three, by-trio}
+use Rattle.book.proofs.Fields.{first-letter, firstThree, three, not-three, by-trio}
 
 pub by-option : {A X : Type 0} (o : Option A) → (o ≡ none → X) → ((a : A) → o ≡ some a → X) → X
 by-option none f g = f refl
@@ -113,6 +113,23 @@ module _ (low : ℕ) (a b c : Line) (ls : List Line) where
     unfolding entries entry
     entries-as x f = rw (e, f, entries)
 
+-- entries that are read with a larger least index are the same with 0
+judged-any : (low : ℕ) (v : Values) (e : Entry) → judged low v ≡ some e → judged 0 v ≡ some e
+judged-any low v e q =
+    let k = kept low v e q in
+    judged-good 0 v (e .index) (k .number) (e .level) (k .tag) (omega arith) (k .good)
+    ∙ ap (λ (t : Part). some (record { index = e .index; level = e .level; text = t })) (k .text)
+
+entries-any : (ls : List Line) (low : ℕ) (es : List Entry) → entries ls low ≡ some es → entries ls 0 ≡ some es
+unfolding entries
+entries-any [] low es q = q
+entries-any (a ∷ []) low es q = q
+entries-any (a ∷ b ∷ []) low es q = q
+entries-any (a ∷ b ∷ c ∷ ls) low es q =
+    by-option (values KI KG KT a b c) (λ n. no-some (sym (entries-off low a b c ls n) ∙ q))
+    (λ v f. by-option (judged low v) (λ n. no-some (sym (entries-bad low a b c ls v f n) ∙ q))
+    (λ e g. entries-as 0 a b c ls v f e (judged-any low v e g) ∙ sym (entries-as low a b c ls v f e g) ∙ q))
+
 no-three : (low : ℕ) (ls : List Line) → (ls ≡ [] → ⊥) → firstThree KI KG KT ls ≡ none → entries ls low ≡ none
 unfolding entries firstThree
 no-three low [] n e = absurd (n refl)
@@ -130,6 +147,9 @@ pub from-end : (s : Bytes) (at low : ℕ) → length s ≤ at → from s at low 
 unfolding entries
 from-end s at low h = ap (λ (ls : List Line). entries ls low) (lines-end s at h)
 
+pub from-any : (s : Bytes) (at low : ℕ) {es : List Entry} → from s at low ≡ some es → from s at 0 ≡ some es
+from-any s at low {es} q = entries-any (lines (drop at s) at) low es q
+
 -- the entry at a place: where its lines end, what it holds, and what follows it
 pub record Opened (s : Bytes) (at low : ℕ) (e : Entry) (stop : ℕ) : Type 0 where
   pub one : ℕ
@@ -137,6 +157,7 @@ pub record Opened (s : Bytes) (at low : ℕ) (e : Entry) (stop : ℕ) : Type 0 w
   pub ends : (one ≡ lineEnd s at) × (two ≡ lineEnd s (one + 1)) × (stop ≡ lineEnd s (two + 1))
   pub order : (at + 6 ≤ one) × (one + 1 + 4 ≤ two) × (two + 1 + 5 ≤ stop)
   pub inside : stop < length s
+  pub letters : (byte s at ≡ 105) × (byte s (one + 1) ≡ 116) × (byte s (two + 1) ≡ 116)
   pub number : indexOf (part s (at + 6) one) ≡ some (e .index)
   pub tag : level (part s (one + 1 + 4) two) ≡ some (e .level)
   pub rises : low ≤ e .index
@@ -189,6 +210,11 @@ module _ (s : Bytes) (at low : ℕ) where
           ends = w .stops;
           order = (omega arith, omega arith, omega arith);
           inside = w .inside;
+          letters = (
+            first-letter s at b 105 (bytes "ndex=") (omega arith) (w .keyed .0),
+            first-letter s (b + 1) d 116 (bytes "ag=") (omega arith) (w .keyed .1),
+            first-letter s (d + 1) f 116 (bytes "ext=") (omega arith) (w .keyed .2),
+          );
           number = rw (sym i) (k .number);
           tag = rw (sym j) (k .tag);
           rises = k .rises;

@@ -6,13 +6,13 @@ use mathlib.Core.Option.{Option, none, some}
 use mathlib.Core.List.{List, [], _∷_}
 use native.Mathlib.Omega.{arith}
 use native.Mathlib.Nat.{sub-zero, suc-sub-suc}
-use lib.ListN.{length, take, drop}
-use lib.Seq.{take-nil, drop-nil, drop-drop}
+use lib.ListN.{length, take, drop, getD}
+use lib.Seq.{take-nil, drop-nil, drop-drop, getD-take, getD-drop}
 use lib.Dec.{ltb}
 use borrow.Author.Tests.{lt-ltb, le-ltb, ltb-true, ltb-false}
-use Rattle.parts.specs.Parts.{Bytes, part, begins}
+use Rattle.parts.specs.Parts.{Bytes, byte, part, begins}
 use Rattle.parts.proofs.Places.{by-test, part-length}
-use Rattle.parts.proofs.Names.{begins-fits}
+use Rattle.parts.proofs.Names.{begins-fits, begins-split}
 use Rattle.book.specs.Lines.{Line, line, lines, Part, value}
 use Rattle.book.specs.Book.{Values, values}
 use Rattle.book.specs.Steps.{lineEnd, fieldAt, threeAt, valuesAt}
@@ -80,12 +80,23 @@ drop-part s at stop k =
     let p : stop - at - k ≡ stop - (at + k) = omega arith in
     drop-take k (stop - at) (drop at s) ∙ ap₂ take p (drop-drop k at s)
 
+-- a line that begins with a name begins with its first letter
+pub first-letter : (s : Bytes) (at stop n : ℕ) (ns : Bytes) → at < stop → begins (n ∷ ns) (part s at stop) ≡ true → byte s at ≡ n
+unfolding part byte
+first-letter s at stop n ns h e =
+    let p : at ≡ at + 0 = omega arith in
+    ap (λ (k : ℕ). getD s k 0) p
+    ∙ sym (getD-drop at s 0 0)
+    ∙ sym (getD-take (stop - at) (drop at s) 0 0 (omega arith))
+    ∙ ap (λ (u : Bytes). getD u 0 0) (begins-split (n ∷ ns) (take (stop - at) (drop at s)) e)
+
 -- the line at a place has the key, and its value goes from start to stop
 pub record Stands (s : Bytes) (at : ℕ) (key : Bytes) (start stop : ℕ) : Type 0 where
   pub starts : start ≡ at + length key
   pub stops : stop ≡ lineEnd s at
   pub order : start ≤ stop
   pub inside : stop < length s
+  pub keyed : begins key (part s at stop) ≡ true
   pub first : lines (drop at s) at ≡ line at (part s at stop) ∷ lines (drop (stop + 1) s) (stop + 1)
   pub reads : value key (line at (part s at stop)) ≡ some (record { start = start; text = part s start stop })
 
@@ -118,6 +129,7 @@ module _ (s : Bytes) (at : ℕ) (key : Bytes) (h : at ≤ length s) where
         stops = refl;
         order = key-fits s at key l h e;
         inside = l;
+        keyed = e;
         first = line-here s at h l;
         reads = rw (e, drop-part s at (lineEnd s at) (length key), value);
       }
@@ -207,6 +219,7 @@ pub record Three (s : Bytes) (at : ℕ) (k l m : Bytes) (a b c d e f : ℕ) : Ty
   pub stops : (b ≡ lineEnd s at) × (d ≡ lineEnd s (b + 1)) × (f ≡ lineEnd s (d + 1))
   pub order : (a ≤ b) × (c ≤ d) × (e ≤ f)
   pub inside : f < length s
+  pub keyed : (begins k (part s at b) ≡ true) × (begins l (part s (b + 1) d) ≡ true) × (begins m (part s (d + 1) f) ≡ true)
   pub line1 : Line
   pub line2 : Line
   pub line3 : Line
@@ -229,6 +242,7 @@ module _ (s : Bytes) (at : ℕ) (k l m : Bytes) (h : at ≤ length s) where
         stops = (p .stops, q .stops, r .stops);
         order = (p .order, q .order, r .order);
         inside = r .inside;
+        keyed = (p .keyed, q .keyed, r .keyed);
         line1 = line at (part s at b);
         line2 = line (b + 1) (part s (b + 1) d);
         line3 = line (d + 1) (part s (d + 1) f);

@@ -11,7 +11,7 @@ use borrow.Author.Tests.{eq-eqb, ne-eqb, ltb-true, ltb-false}
 use Rattle.parts.specs.Parts.{Bytes, part}
 use Rattle.parts.proofs.Places.{by-test}
 use Rattle.book.specs.Lines.{_then_}
-use Rattle.book.specs.Book.{level, levelled, among, Entry, lookup}
+use Rattle.book.specs.Book.{levelled, among, Entry, lookup}
 use Rattle.book.specs.Steps.{lineEnd, entryAt, foundAt}
 use Rattle.book.specs.declared.Found.the-variants.{Absent, At}
 use Rattle.book.specs.declared.entries.Read.{Read}

@@ -3,17 +3,16 @@ use Prim.Native.Nat.{ℕ, suc, _+_, _-_, _*_, _<_, _≤_}
 use mathlib.Core.Path.{_≡_, sym, ap, _∙_}
 use mathlib.Core.List.{[], _∷_, _++_}
 use native.Mathlib.Omega.{arith}
-use native.Mathlib.Nat.{not-suc-le-zero}
-use lib.ListN.{length, take, drop, getD, length-drop, take-append-drop}
+use lib.ListN.{length, take, drop, getD, take-append-drop}
 use lib.Seq.{drop-drop, getD-drop}
 use lib.Dec.{eqb, ltb}
 use borrow.Author.Tests.{eqb-true, eqb-false, ltb-true, ltb-false}
-use Rattle.parts.specs.Parts.{Bytes, byte, part, span, nextByte, digitOf, digits, numberAt}
+use Rattle.parts.specs.Parts.{Bytes, byte, part, digitOf, digits, numberAt}
 use Rattle.parts.specs.declared.Number.the-variants.{Num}
-use Rattle.parts.proofs.Places.{by-test, at-drop, span-found, span-passed, part-length}
+use Rattle.parts.proofs.Places.{by-test, at-drop, part-length}
 use Rattle.parts.proofs.Numbers.{number-none, number-zero, number-starts, digits-stop, digits-past, digits-more}
 use Rattle.book.specs.Book.{Entry}
-use Rattle.book.specs.Steps.{lineEnd}
+use Rattle.book.proofs.Ends.{line-closed}
 use Rattle.book.proofs.Judging.{index-is}
 use Rattle.book.proofs.Entering.{Opened}
 
@@ -51,17 +50,6 @@ number-on s (x ∷ t) w at n d h =
   where
     here : byte s at ≡ x
     here = let p : at ≡ at + 0 = omega arith in ap (λ (k : ℕ). getD s k 0) p ∙ sym (getD-drop at s 0 0) ∙ ap (λ (u : Bytes). getD u 0 0) d
-
--- the byte that closes a line is a 10
-closing : (xs : Bytes) (b : ℕ) → span xs b < length xs → getD xs (span xs b) 0 ≡ b
-closing [] b h = absurd (not-suc-le-zero h)
-closing (x ∷ xs) b h =
-    by-test (eqb x b) (λ e. rw (span-found x xs b e) (eqb-true x b e))
-    (λ e. let p = span-passed x xs b e in rw p (closing xs b (omega arith)))
-
-line-closed : (s : Bytes) (at : ℕ) → at ≤ length s → lineEnd s at < length s → getD s (lineEnd s at) 0 ≡ 10
-unfolding nextByte
-line-closed s at h k = sym (getD-drop at s (span (drop at s) 10) 0) ∙ closing (drop at s) 10 (omega (arith, length-drop at s))
 
 -- the bytes from a place on: a part, and what follows it
 parted : (s : Bytes) (a b : ℕ) → a ≤ b → drop a s ≡ part s a b ++ drop b s

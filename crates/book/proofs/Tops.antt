@@ -8,7 +8,7 @@ use native.Mathlib.Omega.{arith}
 use lib.ListN.{length}
 use lib.Dec.{eqb}
 use borrow.Author.Tests.{eq-eqb, ne-eqb, eqb-true, eqb-false}
-use Rattle.parts.specs.Parts.{Bytes, bytes, part, same}
+use Rattle.parts.specs.Parts.{Bytes, bytes, byte, part, same}
 use Rattle.parts.proofs.Places.{by-test, part-length}
 use Rattle.book.specs.Lines.{_then_, Line, Part}
 use Rattle.book.specs.Book.{Values, values, entries, isText, stamp, header, book, bookOf}
@@ -16,7 +16,7 @@ use Rattle.book.specs.Steps.{lineEnd, threeAt, valuesAt, headed, headAt}
 use Rattle.book.specs.declared.lines.Trio.the-variants as trio
 use Rattle.book.specs.declared.entries.Head.{Head}
 use Rattle.book.specs.declared.entries.Head.the-variants as head
-use Rattle.book.proofs.Fields.{firstThree, three, not-three, by-trio}
+use Rattle.book.proofs.Fields.{first-letter, firstThree, three, not-three, by-trio}
 use Rattle.book.proofs.Entering.{by-option, no-some, and-false, from}
 
 -- ---- judging
@@ -117,6 +117,7 @@ pub record Topped (s : Bytes) (t : Option Part) (stop : ℕ) : Type 0 where
   pub ends : (one ≡ lineEnd s 0) × (two ≡ lineEnd s (one + 1)) × (stop ≡ lineEnd s (two + 1))
   pub order : (5 ≤ one) × (one + 1 + 6 ≤ two) × (two + 1 + 10 ≤ stop)
   pub inside : stop < length s
+  pub letters : (byte s (one + 1) ≡ 99) × (byte s (two + 1) ≡ 116)
   pub clock : t ≡ ticking (same (part s (one + 1 + 6) two) (bytes "yes")) (record { start = two + 1 + 10; text = part s (two + 1 + 10) stop })
   pub good : isText (part s (two + 1 + 10) stop) ≡ true
   pub rest : bookOf s ≡ (from s (stop + 1) 0 then λ es. some (record { clock = t; entries = es }))
@@ -180,6 +181,7 @@ module _ (s : Bytes) where
           ends = w .stops;
           order = (omega arith, omega arith, omega arith);
           inside = w .inside;
+          letters = (first-letter s (b + 1) d 99 (bytes "lock=") (omega arith) (w .keyed .1), first-letter s (d + 1) f 116 (bytes "imestamp=") (omega arith) (w .keyed .2));
           clock = rw (sym j, sym m) (k .clock);
           good = rw (sym m) (k .good);
           rest = ap book (w .first) ∙ book-as (w .line1) (w .line2) (w .line3) _ _ (w .reads) o q;

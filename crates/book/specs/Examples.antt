@@ -9,9 +9,10 @@ use Rattle.utf8.specs.Utf8.{valid, formed, follow, within, table}
 use Rattle.book.specs.Lines.{lines, longer, value}
 use Rattle.book.specs.Book.{meaning, isText, indexOf, plain, levelled, among, level, values, judged, entry, entries, stamp, header, book, bookOf, lookup, find, clock}
 use Rattle.book.specs.Bars.{wider, pieces, pieceOf}
-use Rattle.book.specs.Steps.{isSome}
+use Rattle.book.specs.Steps.{isSome, startsAfter, untilEntry, entryAfter, entryBetween, sideOf}
 use Rattle.book.specs.declared.Found.the-variants as found
 use Rattle.book.specs.declared.Clock.the-variants as time
+use Rattle.book.specs.declared.sides.Side.the-variants as side
 
 unfoldable own : Bytes
 own = bytes "book=1\nclock=no\ntimestamp=\nindex=7\ntag=info\ntext=T {=u8} {=i16}\n"
@@ -23,6 +24,15 @@ own-book = refl
 own-find : map (find own) (6 ∷ 7 ∷ 8 ∷ []) ≡ found.Absent ∷ found.At 49 14 true ∷ found.Absent ∷ []
 unfolding own find lookup bookOf book header entries entry judged stamp values value lines longer level among plain levelled indexOf isText meaning begins same numberAt digits digitOf byte valid formed follow within table
 own-find = refl
+
+-- its entry follows every place up to the end of the third line, and none follows the places behind
+own-after : map (entryAfter own) (0 ∷ 26 ∷ 27 ∷ []) ≡ 27 ∷ 27 ∷ 64 ∷ []
+unfolding own entryAfter untilEntry startsAfter byte
+own-after = refl
+
+own-side : map (sideOf own 20 64) (6 ∷ 7 ∷ 8 ∷ []) ≡ side.Above ∷ side.Here 34 ∷ side.Below 34 ∷ []
+unfolding own sideOf entryBetween entryAfter untilEntry startsAfter numberAt digits digitOf byte
+own-side = refl
 
 unfoldable isBook : Bytes → Bool
 isBook s = isSome (bookOf s)

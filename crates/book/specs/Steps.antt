@@ -1,10 +1,13 @@
 -- What the inner functions promise, by places of the book.
-use Prim.Native.Nat.{ℕ, _+_, _-_, _<_, _≤_}
-use mathlib.Core.Bool.{Bool, true, false}
+use Prim.Native.Nat.{ℕ, suc, _+_, _-_, _<_, _≤_}
+use mathlib.Core.Bool.{Bool, true, false, _&&_}
 use mathlib.Core.Option.{Option, none, some}
-use lib.ListN.{length}
-use lib.Dec.{ltb}
-use Rattle.parts.specs.Parts.{Bytes, bytes, part, nextByte, begins}
+use mathlib.Core.List.{[], _∷_}
+use lib.ListN.{length, drop}
+use lib.Dec.{eqb, leb, ltb}
+use Rattle.parts.specs.Parts.{Bytes, bytes, byte, part, nextByte, begins, numberAt}
+use Rattle.parts.specs.declared.Number.{Number}
+use Rattle.parts.specs.declared.Number.the-variants.{Num, NoNum}
 use Rattle.book.specs.Lines.{Part}
 use Rattle.book.specs.Book.{Values, Entry, judged, stamp, levelled, among}
 use Rattle.book.specs.declared.Found.{Found}
@@ -19,6 +22,8 @@ use Rattle.book.specs.declared.entries.Read.{Read}
 use Rattle.book.specs.declared.entries.Read.the-variants as read
 use Rattle.book.specs.declared.entries.Head.{Head}
 use Rattle.book.specs.declared.entries.Head.the-variants as head
+use Rattle.book.specs.declared.sides.Side.{Side}
+use Rattle.book.specs.declared.sides.Side.the-variants as side
 
 -- the byte 10 that closes the line at a place
 abbrev pub lineEnd : Bytes → ℕ → ℕ
@@ -88,3 +93,27 @@ pub record TagLine (s : Bytes) (at : ℕ) : Type 0 where
 abbrev pub foundAt : Bytes → ℕ → Found
 foundAt s at =
     At (lineEnd s at + 6) (lineEnd s (lineEnd s at + 1) - (lineEnd s at + 6)) (among (part s (at + 4) (lineEnd s at)) levelled)
+
+-- Does a line end at a place, and an entry follow it? In a checked book the first line of each entry begins with byte 105, and no other line does.
+unfoldable pub startsAfter : Bytes → ℕ → Bool
+startsAfter s at = eqb (byte s at) 10 && eqb (byte s (at + 1)) 105
+
+-- where the first entry starts that follows a line's end at or behind a place; the end where there is none
+unfoldable pub untilEntry : Bytes → ℕ
+untilEntry [] = 0
+untilEntry (x ∷ xs) = elim (startsAfter (x ∷ xs) 0) [ true ↦ 1 | false ↦ suc (untilEntry xs) ]
+
+unfoldable pub entryAfter : Bytes → ℕ → ℕ
+entryAfter s at = at + untilEntry (drop at s)
+
+-- the same, for a line's end before a bound
+unfoldable pub entryBetween : Bytes → ℕ → ℕ → ℕ
+entryBetween s at bound = elim (leb (entryAfter s at) bound) [ true ↦ entryAfter s at | false ↦ length s ]
+
+-- how that entry lies to the index n
+abbrev pub sided : ℕ → Number → Side
+sided n NoNum = side.Above
+sided n (Num k stop) = elim (ltb n k) [ true ↦ side.Above | false ↦ elim (eqb n k) [ true ↦ side.Here stop | false ↦ side.Below stop ] ]
+
+unfoldable pub sideOf : Bytes → ℕ → ℕ → ℕ → Side
+sideOf s at bound n = sided n (numberAt s (entryBetween s at bound + 6) 65535)

@@ -3,6 +3,7 @@
 mod bars;
 mod entries;
 mod lines;
+mod sides;
 
 use answer::Refusal;
 use answer::Verdict;
@@ -15,7 +16,8 @@ use entries::carries_level;
 use entries::entry_at;
 use entries::heading;
 use lines::next_line;
-use parts::Number;
+use sides::Side;
+use sides::side_of;
 ghost use mathlib.Core.Path.{_≡_};
 ghost use Rattle.answer.specs.declared.Verdict.the-variants.{Ok};
 ghost use Rattle.book.specs.Book.{checked, find, clock};
@@ -69,23 +71,21 @@ pub fn clock_of(book: &[u8]) -> Clock
     Clock::No
 }
 
-// Inner: the entry with an index, in a checked book. It goes from entry to entry by line ends and indexes.
+// Inner: the entry with an index, in a checked book. If it is there, it follows a line's end from `from` on and before `bound`; indexes
+// rise, so the entry that follows the middle tells which half is left.
 pub fn find(book: &[u8], index: usize) -> Found
     requires { ⌜ checked (now book) ≡ Ok ⌝ }
     ensures { λ r. ⌜ r ≡ find (now (book .entry)) index ⌝ }
 {
-    let mut at = next_line(book, next_line(book, next_line(book, 0)));
-    while at < book.len() {
-        let Number::Num(n, stop) = parts::number_at(book, at + 6, 65535) else {
-            return Found::Absent;
-        };
-        if index < n {
-            return Found::Absent;
+    let mut from = 0;
+    let mut bound = book.len();
+    while from < bound {
+        let middle = from + (bound - from) / 2;
+        match side_of(book, middle, bound, index) {
+            Side::Above => bound = middle,
+            Side::Below(stop) => from = stop,
+            Side::Here(stop) => return text_of(book, stop + 1),
         }
-        if index == n {
-            return text_of(book, stop + 1);
-        }
-        at = next_line(book, next_line(book, stop + 1));
     }
     Found::Absent
 }

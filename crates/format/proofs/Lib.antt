@@ -3,8 +3,10 @@ pub mod TypeLaws
 pub mod HintLaws
 pub mod FragmentLaws
 pub mod ParamLaws
-pub mod AddLaws
 pub mod Added
+pub mod Turns
+pub mod InPlace
+pub mod Lent
 pub mod Progress
 pub mod Walking
 pub mod StepLaws

@@ -3,24 +3,26 @@ use Prim.Native.Nat.{ℕ, suc, _+_, _-_, _<_, _≤_}
 use mathlib.Core.Path.{_≡_, refl, sym, ap, ap₂, _∙_, subst}
 use mathlib.Core.Bool.{Bool, true, false}
 use mathlib.Core.Option.{Option, none, some}
-use mathlib.Core.List.{List, [], _∷_}
+use mathlib.Core.List.{List, [], _∷_, _++_, append-assoc, append-nil}
+use native.Mathlib.Numerals.{add-one}
 use native.Mathlib.Omega.{arith}
-use lib.ListN.{length, take, replicate, length-append, length-replicate}
-use lib.Seq.{take-append-seam, length-take-le}
-use lib.Dec.{leb}
+use lib.ListN.{length, set, take, drop, replicate, length-append, length-drop, length-replicate, replicate-append-replicate}
+use lib.Seq.{take-append-seam, drop-append-add, take-suc-set, drop-set-lt, length-take-le}
 use borrow.Author.Tests.{le-leb, lt-leb}
 use Rattle.parts.specs.Parts.{Bytes, part}
 use Rattle.parts.proofs.Places.{by-test, never}
 use Rattle.format.specs.Grammar.{counterAfter, nextAt}
 use Rattle.format.specs.Pieces.{Piece, literal, shown, consed, piecesFrom, pieces}
-use Rattle.format.specs.Params.{asked, addTo, gather, inOrder, complete, prepared, scanOf, blank, padded, scannedOf}
-use Rattle.format.specs.Steps.{Fine, Failed, judged, goes-on, Took, Stepped}
+use Rattle.format.specs.Params.{asked, gather, inOrder, complete, prepared, scanOf, blank, padded, scannedOf}
+use Rattle.format.specs.Steps.{Kept, Left, Fits, front, Fine, Failed, judged, goes-on, Took, Stepped}
 use Rattle.format.specs.declared.hints.Hint.{Hint}
 use Rattle.format.specs.declared.fragments.Param.{Param}
 use Rattle.format.specs.declared.fragments.Fragment.the-variants.{Literal, Parameter, End, Bad}
 use Rattle.format.specs.declared.params.Scanned.{Scanned}
+use Rattle.format.specs.declared.records.Told.{Told}
+use Rattle.format.specs.declared.records.Told.the-variants.{Count, Clash}
 use Rattle.format.specs.declared.sift.Sifted.{Sifted}
-use Rattle.format.proofs.Added.{adds, adds-few}
+use Rattle.format.proofs.InPlace.{take-drop, drop-blanks}
 use Rattle.format.proofs.Progress.{literal-past, parameter-past, end-past}
 use Rattle.format.proofs.Walking.{pieces-bad, pieces-literal, pieces-parameter, pieces-past}
 
@@ -48,17 +50,10 @@ long : (ps : List Param) → 32 ≤ length (padded ps)
 unfolding padded
 long ps = simp (length-append, length-replicate) (omega arith)
 
-fits : (t : Sifted) → Fine t → t .count ≤ length (t .items)
-fits t f = omega (arith, f .fewer, f .few, ap length (f .filled), long (take (t .count) (t .items)))
+fits : (items : List Param) (n : ℕ) → items ≡ padded (take n items) → n ≤ 32 → n ≤ length items
+fits items n filled few = omega (arith, ap length filled, long (take n items))
 
 module _ (o : Option (List Param)) (r : Scanned) (is : r ≡ scannedOf o) where
-  pub answer-bad : r .bad ≡ true → o ≡ none
-  answer-bad b = go o is
-    where
-      go : (o : Option (List Param)) → r ≡ scannedOf o → o ≡ none
-      go none e = refl
-      go (some ps) e = never (r .bad) b (ap (λ (z : Scanned). z .bad) e)
-
   abbrev Good : Option (List Param) → Type 0
   Good o = (o ≡ some (take (r .count) (r .items))) × (r .items ≡ padded (take (r .count) (r .items))) × (r .count ≤ length (r .items))
 
@@ -73,35 +68,22 @@ module _ (o : Option (List Param)) (r : Scanned) (is : r ≡ scannedOf o) where
 
 -- ---- a piece more
 
-judged-literal : (acc : List Param) (m : ℕ) (t : Bytes) (w : Option (List Piece)) → judged acc m (consed (literal t) w) ≡ judged acc m w
+judged-literal : (written : List Param) (t : Bytes) (w : Option (List Piece)) → judged written (consed (literal t) w) ≡ judged written w
 unfolding asked
-judged-literal acc m t none = refl
-judged-literal acc m t (some ps) = refl
+judged-literal written t none = refl
+judged-literal written t (some ps) = refl
 
-module _ (acc : List Param) (m : ℕ) (p : Param) (h : Hint) where
-  judged-full : 32 ≤ m → (w : Option (List Piece)) → judged acc m (consed (shown p h) w) ≡ none
-  unfolding asked
+module _ (written : List Param) (p : Param) (h : Hint) where
+  judged-full : 32 ≤ length written → (w : Option (List Piece)) → judged written (consed (shown p h) w) ≡ none
+  unfolding asked prepared
   judged-full l none = refl
-  judged-full l (some ps) = rw (lt-leb (m + suc (length (asked ps))) 32 (omega arith), judged)
+  judged-full l (some ps) =
+      let z = length-append written (p ∷ asked ps) in rw (lt-leb (length (written ++ (p ∷ asked ps))) 32 (omega arith), judged, prepared)
 
-  gather-one : (ps : List Param) (o : Option (List Param)) → addTo acc p ≡ o → gather (p ∷ ps) acc ≡ elim o [ none ↦ none | some more ↦ gather ps more ]
-  unfolding gather
-  gather-one ps o e = rw (e, gather)
-
-  judged-clash : addTo acc p ≡ none → (w : Option (List Piece)) → judged acc m (consed (shown p h) w) ≡ none
+  judged-more : (w : Option (List Piece)) → judged written (consed (shown p h) w) ≡ judged (written ++ (p ∷ [])) w
   unfolding asked
-  judged-clash e none = refl
-  judged-clash e (some ps) =
-      by-test (leb (m + suc (length (asked ps))) 32) (λ b. rw (b, judged) (ap complete (gather-one (asked ps) none e))) (λ b. rw (b, judged))
-
-  judged-more : (more : List Param) → addTo acc p ≡ some more → (w : Option (List Piece)) → judged acc m (consed (shown p h) w) ≡ judged more (m + 1) w
-  unfolding asked
-  judged-more more e none = refl
-  judged-more more e (some ps) =
-      let z : m + suc (length (asked ps)) ≡ m + 1 + length (asked ps) = omega arith in
-      by-test (leb (m + 1 + length (asked ps)) 32)
-      (λ b. rw (z, b, judged) (ap complete (gather-one (asked ps) (some more) e)))
-      (λ b. rw (z, b, judged))
+  judged-more none = refl
+  judged-more (some ps) = ap prepared (sym (append-assoc written (p ∷ []) (asked ps)))
 
 -- ---- the returns of `took`
 
@@ -114,43 +96,56 @@ module _ (t : Sifted) (p : Param) (counted : Bool) (next : ℕ) where
     is = λ h w. n h w ∙ sym (ap (λ (b : Bool). goes-on b r w) (f .bad));
   }
 
-  pub took-full : 32 ≤ t .written → (r : Sifted) → Failed r → Took t p counted next r
-  took-full l r f = stopped r f (λ h w. judged-full (take (t .count) (t .items)) (t .written) p h l w)
+  module _ (f : Fine t) where
+    count : length (take (t .written) (t .items)) ≡ t .written
+    count = length-take-le (t .written) (t .items) (fits (t .items) (t .written) (f .filled) (f .few))
 
-  module _ (s : Scanned) (a : s ≡ scannedOf (addTo (take (t .count) (t .items)) p)) where
-    pub took-clash : s .bad ≡ true → (r : Sifted) → Failed r → Took t p counted next r
-    took-clash b r f = stopped r f (λ h w. judged-clash (take (t .count) (t .items)) (t .written) p h (answer-bad _ s a b) w)
+    pub took-full : 32 ≤ t .written → (r : Sifted) → Failed r → Took t p counted next r
+    took-full l r f = stopped r f (λ h w. judged-full (take (t .written) (t .items)) p h (omega (arith, count)) w)
 
-    pub took-one : Fine t → t .written < 32 → s .bad ≡ false → (c : ℕ) → c ≡ counterAfter counted (t .counter)
-        → Took t p counted next (record { items = s .items; count = s .count; written = t .written + 1; counter = c; at = next; bad = false })
-    took-one f l b c ec =
-        let g = answer-good _ s a b in
-        let few = adds-few (adds (take (t .count) (t .items)) p (take (s .count) (s .items)) (g .0)) in
-        let u = length-take-le (t .count) (t .items) (fits t f) in
-        let v = length-take-le (s .count) (s .items) (g .2) in
-        record {
-          fine = record {
-            filled = g .1;
-            fewer = omega (arith, f .fewer);
-            counted = omega (arith, counter-few counted (t .counter), f .counted);
-            few = omega arith;
-          };
-          place = λ _. refl;
-          counter = λ _. ec;
-          is = λ h w. judged-more (take (t .count) (t .items)) (t .written) p h (take (s .count) (s .items)) (g .0) w;
-        }
+    module _ (l : t .written < 32) (items : List Param) (e : items ≡ set (t .items) (t .written) p) where
+      front-more : take (t .written + 1) items ≡ take (t .written) (t .items) ++ (p ∷ [])
+      front-more =
+          ap₂ take (add-one (t .written)) e ∙ take-suc-set (t .items) (t .written) p (omega (arith, f .few, ap length (f .filled), long (take (t .written) (t .items))))
+
+      behind : drop (t .written + 1) (t .items) ≡ replicate (32 - (t .written + 1)) blank
+      unfolding padded
+      behind =
+          let a = take (t .written) (t .items) in
+          let z : 32 - length a ≡ suc (32 - (t .written + 1)) = omega (arith, count) in
+          ap (drop (t .written + 1)) (f .filled)
+          ∙ ap₂ (λ (k j : ℕ). drop (k + 1) (a ++ replicate j blank)) (sym count) z
+          ∙ drop-append-add a (replicate (suc (32 - (t .written + 1))) blank) 1
+
+      filled-more : items ≡ padded (take (t .written + 1) items)
+      unfolding padded
+      filled-more =
+          let a = take (t .written) (t .items) ++ (p ∷ []) in
+          let z : t .written + 1 ≡ length a = simp length-append (omega (arith, count)) in
+          sym (take-drop (t .written + 1) items)
+          ∙ ap₂ _++_ front-more (ap (drop (t .written + 1)) e ∙ drop-set-lt (t .written + 1) (t .items) (t .written) p (omega arith) ∙ behind)
+          ∙ ap (λ (k : ℕ). a ++ replicate (32 - k) blank) z
+          ∙ ap padded (sym front-more)
+
+      pub took-one : (c : ℕ) → c ≡ counterAfter counted (t .counter) → Took t p counted next (record { items = items; written = t .written + 1; counter = c; at = next; bad = false })
+      took-one c ec = record {
+        fine = record { filled = filled-more; counted = omega (arith, counter-few counted (t .counter), f .counted); few = omega arith };
+        place = λ _. refl;
+        counter = λ _. ec;
+        is = λ h w. judged-more (take (t .written) (t .items)) p h w ∙ ap (λ (a : List Param). judged a w) (sym front-more);
+      }
 
 -- ---- the returns of `step`
 
 module _ (s : Bytes) (t : Sifted) where
   pub step-literal : (from to n : ℕ) → Fine t → nextAt s (t .at) (t .counter) ≡ Literal from to n
-      → Stepped s t (record { items = t .items; count = t .count; written = t .written; counter = t .counter; at = n; bad = false })
+      → Stepped s t (record { items = t .items; written = t .written; counter = t .counter; at = n; bad = false })
   step-literal from to n f e = record {
-    fine = record { filled = f .filled; fewer = f .fewer; counted = f .counted; few = f .few };
+    fine = record { filled = f .filled; counted = f .counted; few = f .few };
     later = λ _. literal-past s (t .at) (t .counter) from to n e .0;
     is =
         ap (goes-on false t) (pieces-literal s (t .at) (t .counter) from to n e)
-        ∙ judged-literal (take (t .count) (t .items)) (t .written) (part s from to) (piecesFrom s n (t .counter));
+        ∙ judged-literal (take (t .written) (t .items)) (part s from to) (piecesFrom s n (t .counter));
   }
 
   module _ (r : Sifted) where
@@ -176,42 +171,96 @@ module _ (s : Bytes) (t : Sifted) where
     pub step-end : t .at < length s → nextAt s (t .at) (t .counter) ≡ End → Stepped s t r
     step-end l e = absurd (let h = end-past s (t .at) (t .counter) e in let z : ⊥ = omega arith in z)
 
--- ---- the returns of `finished` and of `scan`
+-- ---- the returns of `answered`, of `finished` and of `scan`
 
-module _ (t : Sifted) (b : Bool) (e : b ≡ inOrder (take (t .count) (t .items)) 0) where
-  ordered : {x : Bool} → b ≡ x → complete (some (take (t .count) (t .items))) ≡ elim x [ true ↦ some (take (t .count) (t .items)) | false ↦ none ]
-  ordered {x} h = rw (sym e ∙ h, complete)
+module _ (items : List Param) (told : Told) where
+  pub answered-clash : told ≡ Clash → (r : Scanned) → r ≡ scannedOf none → r ≡ scannedOf (complete (front items told))
+  answered-clash e r f = f ∙ ap (λ (z : Told). scannedOf (complete (front items z))) (sym e)
 
-  pub finished-good : Fine t → b ≡ true → record { items = t .items; count = t .count; bad = false } ≡ scannedOf (complete (some (take (t .count) (t .items))))
-  finished-good f h =
-      ap₂ (λ (z : List Param) (k : ℕ). record { items = z; count = k; bad = false }) (f .filled) (sym (length-take-le (t .count) (t .items) (fits t f)))
-      ∙ ap scannedOf (sym (ordered h))
+  module _ (n : ℕ) (e : told ≡ Count n) where
+    pub answered-fits : Fits items told → Fits items (Count n)
+    answered-fits f = subst (Fits items) e f
 
-  pub finished-bad : b ≡ false → (r : Scanned) → r ≡ scannedOf none → r ≡ scannedOf (complete (some (take (t .count) (t .items))))
-  finished-bad h r f = f ∙ ap scannedOf (sym (ordered h))
+    module _ (b : Bool) (eb : b ≡ inOrder (take n items) 0) where
+      in-order : {x : Bool} → b ≡ x → complete (front items told) ≡ elim x [ true ↦ some (take n items) | false ↦ none ]
+      in-order {x} h = ap (λ (z : Told). complete (front items z)) e ∙ rw (sym eb ∙ h, complete)
+
+      pub answered-good : Fits items told → b ≡ true → record { items = items; count = n; bad = false } ≡ scannedOf (complete (front items told))
+      answered-good fs h =
+          let f = answered-fits fs in
+          ap₂ (λ (z : List Param) (k : ℕ). record { items = z; count = k; bad = false }) (f .1) (sym (length-take-le n items (fits items n (f .1) (f .0))))
+          ∙ ap scannedOf (sym (in-order h))
+
+      pub answered-bad : b ≡ false → (r : Scanned) → r ≡ scannedOf none → r ≡ scannedOf (complete (front items told))
+      answered-bad h r f = f ∙ ap scannedOf (sym (in-order h))
+
+-- the first parameters of an array were prepared, and the blanks behind them stand as they did
+pub same-items : (t : Sifted) → Fine t → (items : List Param) → items ≡ t .items → items ≡ padded (take (t .written) items)
+same-items t f items e = subst (λ (z : List Param). z ≡ padded (take (t .written) z)) (sym e) (f .filled)
+
+module _ (items : List Param) (n : ℕ) (filled : items ≡ padded (take n items)) (few : n ≤ 32) where
+  abbrev written : List Param
+  written = take n items
+
+  pub many : length written ≡ n
+  many = length-take-le n items (fits items n filled few)
+
+  judges : (o : Option (List Param)) → gather written [] ≡ o → complete o ≡ prepared written
+  unfolding prepared
+  judges o e = sym (rw (le-leb (length written) 32 (omega (arith, many, few)), e, prepared))
+
+  others : drop n items ≡ replicate (32 - n) blank
+  unfolding padded
+  others =
+      let z : n ≡ length written + 0 = omega (arith, many) in
+      ap₂ drop z (filled) ∙ drop-append-add written (replicate (32 - length written) blank) 0 ∙ ap (λ (k : ℕ). replicate (32 - k) blank) many
+
+  module _ (ys : List Param) (same : length ys ≡ length written) where
+    abbrev after : List Param
+    after = ys ++ drop n items
+
+    lies : (k : ℕ) → (a : Kept (gather written []) (replicate (length written) blank) ys k) → (k ≤ 32) × (after ≡ padded (a .records))
+    unfolding padded
+    lies k a = let b = replicate (length written) blank in
+        let size : length ys ≡ k + (length written - k) = ap length (a .lie) ∙ simp (length-append, length-drop, length-replicate) (omega (arith, a .many)) in
+        let w : drop k b ≡ replicate (length written - k) blank = ap (drop k) (sym (append-nil b)) ∙ drop-blanks k (length written) [] (omega arith) ∙ append-nil (replicate (length written - k) blank) in
+        let j : length written - k + (32 - n) ≡ 32 - length (a .records) = omega (arith, a .many, many, few) in (
+          omega (arith, many, few),
+          ap₂ _++_ (a .lie ∙ ap (λ (z : List Param). a .records ++ z) w) others
+              ∙ append-assoc (a .records) (replicate (length written - k) blank) (replicate (32 - n) blank)
+              ∙ ap (λ (z : List Param). a .records ++ z) (replicate-append-replicate (length written - k) (32 - n) blank ∙ ap (λ (m : ℕ). replicate m blank) j),
+        )
+
+    in-front : (k : ℕ) → (a : Kept (gather written []) (replicate (length written) blank) ys k) → take k after ≡ a .records
+    in-front k a = ap₂ take (sym (a .many)) (lies k a .1) ∙ taken (a .records)
+
+    pub finished-fits : (told : Told) → Left (gather written []) (replicate (length written) blank) ys told → Fits after told
+    finished-fits (Count k) a = (lies k a .0, lies k a .1 ∙ ap padded (sym (in-front k a)))
+    finished-fits Clash a = tt
+
+    pub finished-is : (told : Told) → Left (gather written []) (replicate (length written) blank) ys told → complete (front after told) ≡ prepared written
+    finished-is (Count k) a = judges (some (take k after)) (a .are ∙ ap some (sym (in-front k a)))
+    finished-is Clash a = judges none a
 
 pub record Going (s : Bytes) (t : Sifted) : Type 0 where
   pub fine : Fine t
   pub so : goes-on false t (piecesFrom s (t .at) (t .counter)) ≡ scanOf s
 
-first : (s : Bytes) (w : Option (List Piece)) → pieces s ≡ w → judged [] 0 w ≡ scanOf s
-unfolding scanOf prepared
+first : (s : Bytes) (w : Option (List Piece)) → pieces s ≡ w → judged [] w ≡ scanOf s
+unfolding scanOf
 first s none e = sym (rw (e, scanOf))
-first s (some ps) e = let z : 0 + length (asked ps) ≡ length (asked ps) = omega arith in rw (z, judged) (sym (rw (e, scanOf)))
+first s (some ps) e = sym (rw (e, scanOf))
 
-pub going-first : (s : Bytes) (items : List Param) → items ≡ padded [] → Going s (record { items = items; count = 0; written = 0; counter = 0; at = 0; bad = false })
+pub going-first : (s : Bytes) (items : List Param) → items ≡ padded [] → Going s (record { items = items; written = 0; counter = 0; at = 0; bad = false })
 unfolding pieces
-going-first s items e = record {
-  fine = record { filled = e; fewer = omega arith; counted = omega arith; few = omega arith };
-  so = first s (piecesFrom s 0 0) refl;
-}
+going-first s items e = record { fine = record { filled = e; counted = omega arith; few = omega arith }; so = first s (piecesFrom s 0 0) refl }
 
 module _ (s : Bytes) (t : Sifted) (g : Going s t) where
-  none-left : judged (take (t .count) (t .items)) (t .written) (some []) ≡ complete (some (take (t .count) (t .items)))
-  unfolding gather asked
-  none-left = rw (le-leb (t .written + 0) 32 (omega (arith, g .fine .few)), judged)
+  none-left : judged (take (t .written) (t .items)) (some []) ≡ prepared (take (t .written) (t .items))
+  unfolding asked
+  none-left = ap prepared (append-nil (take (t .written) (t .items)))
 
-  pub going-ends : length s ≤ t .at → (r : Scanned) → r ≡ scannedOf (complete (some (take (t .count) (t .items)))) → r ≡ scannedOf (scanOf s)
+  pub going-ends : length s ≤ t .at → (r : Scanned) → r ≡ scannedOf (prepared (take (t .written) (t .items))) → r ≡ scannedOf (scanOf s)
   going-ends l r e = e ∙ ap scannedOf (sym none-left ∙ ap (goes-on false t) (sym (pieces-past s (t .at) (t .counter) l)) ∙ g .so)
 
   module _ (u : Sifted) (k : Stepped s t u) where

@@ -1,42 +1,85 @@
 -- What the inner steps of a scan say of each other. No rule of 01 stands here, and neither `next` nor `scan` cites it.
-use Prim.Native.Nat.{ℕ, suc, _+_, _≤_, _<_}
+use Prim.Native.Nat.{ℕ, _≤_, _<_}
 use mathlib.Core.Path.{_≡_}
 use mathlib.Core.Bool.{Bool, true, false}
 use mathlib.Core.Option.{Option, none, some}
 use mathlib.Core.List.{List, [], _∷_, _++_}
 use lib.ListN.{length, take, drop}
-use lib.Dec.{ltb, leb}
+use lib.Dec.{ltb, eqb}
 use Rattle.parts.specs.Parts.{Bytes}
 use Rattle.format.specs.Grammar.{counterAfter}
 use Rattle.format.specs.Pieces.{Piece, shown, consed, piecesFrom}
-use Rattle.format.specs.Params.{asked, gather, complete, padded}
+use Rattle.format.specs.Params.{asked, meetOf, prepared, padded}
 use Rattle.format.specs.declared.hints.Hint.{Hint}
 use Rattle.format.specs.declared.fragments.Param.{Param}
+use Rattle.format.specs.declared.params.Met.{Met}
+use Rattle.format.specs.declared.params.Met.the-variants as met
+use Rattle.format.specs.declared.records.Told.{Told}
+use Rattle.format.specs.declared.records.Told.the-variants.{Count, Clash}
+use Rattle.format.specs.declared.records.Turn.{Turn}
+use Rattle.format.specs.declared.records.Turn.the-variants as turn
 use Rattle.format.specs.declared.sift.Sifted.{Sifted}
 
--- how many of the first parameters are below a position
-unfoldable pub placeIn : List Param → ℕ → ℕ
-placeIn [] n = 0
-placeIn (y ∷ ys) n = elim (ltb (y .position) n) [ true ↦ suc (placeIn ys n) | false ↦ 0 ]
+-- ---- records, sorted and merged where they lie
 
-abbrev pub inserted : List Param → ℕ → Param → List Param
-inserted ps i p = take i ps ++ (p ∷ drop i ps)
+-- each position is greater than the one before it
+abbrev pub Before : Param → List Param → Type 0
+Before p [] = Unit {0}
+Before p (y ∷ ys) = p .position < y .position
 
--- a scan on its way, within its bounds: the parameters that came so far, and blanks
+abbrev pub Ordered : List Param → Type 0
+Ordered [] = Unit {0}
+Ordered (p ∷ ps) = Before p ps × Ordered ps
+
+-- a record that is carried comes to one that stands: the lower position stays and the higher is carried on, and one position has one record
+abbrev pub metTurn : ℕ → Met → Turn
+metTurn n (met.Same k) = turn.Into (record { position = n; kind = k })
+metTurn n met.Clash = turn.Clash
+
+unfoldable pub turnOf : Param → Param → Turn
+turnOf q hold =
+    elim (ltb (q .position) (hold .position)) [
+      | true ↦ turn.On q hold
+      | false ↦ elim (eqb (q .position) (hold .position)) [ true ↦ metTurn (q .position) (meetOf (q .kind) (hold .kind)) | false ↦ turn.On hold q ]
+    ]
+
+-- so many records lie in front, and what was old lies behind them
+pub record Kept (o : Option (List Param)) (old new : List Param) (count : ℕ) : Type 0 where
+  pub records : List Param
+  pub are : o ≡ some records
+  pub many : length records ≡ count
+  pub lie : new ≡ records ++ drop count old
+
+-- what is told of records o, which are none where types clash
+abbrev pub Left : Option (List Param) → List Param → List Param → Told → Type 0
+Left o old new (Count k) = Kept o old new k
+Left o old new Clash = o ≡ none
+
+-- the records in front of an array, and blanks behind them
+abbrev pub Fits : List Param → Told → Type 0
+Fits items (Count k) = (k ≤ 32) × (items ≡ padded (take k items))
+Fits items Clash = Unit {0}
+
+abbrev pub front : List Param → Told → Option (List Param)
+front items (Count k) = some (take k items)
+front items Clash = none
+
+-- ---- a scan on its way
+
+-- within its bounds: the parameters that are written so far, and blanks
 pub record Fine (t : Sifted) : Type 0 where
-  pub filled : t .items ≡ padded (take (t .count) (t .items))
-  pub fewer : t .count ≤ t .written
+  pub filled : t .items ≡ padded (take (t .written) (t .items))
   pub counted : t .counter ≤ t .written
   pub few : t .written ≤ 32
 
--- acc is what the first m parameters came to, and these pieces are to come
-abbrev pub judged : List Param → ℕ → Option (List Piece) → Option (List Param)
-judged acc m none = none
-judged acc m (some ps) = elim (leb (m + length (asked ps)) 32) [ true ↦ complete (gather (asked ps) acc) | false ↦ none ]
+-- some parameters are written, and these pieces are to come
+abbrev pub judged : List Param → Option (List Piece) → Option (List Param)
+judged written none = none
+judged written (some ps) = prepared (written ++ asked ps)
 
 abbrev pub goes-on : Bool → Sifted → Option (List Piece) → Option (List Param)
 goes-on true t w = none
-goes-on false t w = judged (take (t .count) (t .items)) (t .written) w
+goes-on false t w = judged (take (t .written) (t .items)) w
 
 pub record Failed (r : Sifted) : Type 0 where
   pub bad : r .bad ≡ true

@@ -5,6 +5,7 @@
 mod fragments;
 mod hints;
 mod params;
+mod records;
 mod sift;
 mod types;
 
@@ -71,7 +72,6 @@ pub fn scan(text: &[u8]) -> Scanned
 {
     let mut t = Sifted {
         items: blanks(),
-        count: 0,
         written: 0,
         counter: 0,
         at: 0,

@@ -3,22 +3,21 @@ use crate::fragments::Fragment;
 use crate::fragments::Param;
 use crate::next;
 use crate::params::Scanned;
-use crate::params::add_to;
 use crate::params::blanks;
 use crate::params::in_order;
 use crate::params::refused;
+use crate::records::Told;
+use crate::records::prepare;
 ghost use mathlib.Core.Path.{_≡_};
-ghost use mathlib.Core.Option.{some};
 ghost use Prim.Native.Nat.{_≤_, _<_};
 ghost use lib.ListN.{length, take};
 ghost use Rattle.format.specs.Grammar.{counterAfter};
-ghost use Rattle.format.specs.Params.{complete, scannedOf};
-ghost use Rattle.format.specs.Steps.{Fine, Failed, Took, Stepped};
+ghost use Rattle.format.specs.Params.{complete, prepared, scannedOf};
+ghost use Rattle.format.specs.Steps.{Fine, Failed, Took, Stepped, Fits, front};
 
-// A scan on its way: what came so far, how many parameters were written, the counter and the place.
+// A scan on its way: the parameters as they are written and how many they are, the counter and the place.
 pub struct Sifted {
     pub items: [Param; 32],
-    pub count: usize,
     pub written: usize,
     pub counter: usize,
     pub at: usize,
@@ -37,7 +36,6 @@ fn failed() -> Sifted
 {
     Sifted {
         items: blanks(),
-        count: 0,
         written: 0,
         counter: 0,
         at: 0,
@@ -53,16 +51,12 @@ fn took(t: Sifted, p: Param, counted: bool, next: usize) -> Sifted
     if t.written >= 32 {
         return failed();
     }
-    let items = t.items;
-    let s = add_to(items, t.count, p);
-    if s.bad {
-        return failed();
-    }
-    let kept = s.items;
+    let mut items = t.items;
+    let n = t.written;
+    items[n] = p;
     Sifted {
-        items: kept,
-        count: s.count,
-        written: t.written + 1,
+        items: items,
+        written: n + 1,
         counter: counter_after(counted, t.counter),
         at: next,
         bad: false,
@@ -83,7 +77,6 @@ pub fn step(text: &[u8], t: Sifted) -> Sifted
             let items = t.items;
             Sifted {
                 items: items,
-                count: t.count,
                 written: t.written,
                 counter: t.counter,
                 at: n,
@@ -101,18 +94,38 @@ pub fn step(text: &[u8], t: Sifted) -> Sifted
     }
 }
 
-// Inner: the end of a scan: no position may be missing.
-pub fn finished(t: Sifted) -> Scanned
-    requires { ⌜ Fine t ⌝ }
-    ensures { λ r. ⌜ r ≡ scannedOf (complete (some (take (t .count) (t .items)))) ⌝ }
+fn items_of(t: Sifted) -> [Param; 32]
+    ensures { λ r. ⌜ r ≡ t .items ⌝ }
 {
     let items = t.items;
-    if in_order(items, t.count) {
+    items
+}
+
+// What was told of the records: no position may be missing.
+fn answered(items: [Param; 32], told: Told) -> Scanned
+    requires { ⌜ Fits items told ⌝ }
+    ensures { λ r. ⌜ r ≡ scannedOf (complete (front items told)) ⌝ }
+{
+    let Told::Count(n) = told else {
+        return refused();
+    };
+    if in_order(items, n) {
         return Scanned {
             items: items,
-            count: t.count,
+            count: n,
             bad: false,
         };
     }
     refused()
+}
+
+// Inner: the end of a scan: its records are prepared where they lie.
+pub fn finished(t: Sifted) -> Scanned
+    requires { ⌜ Fine t ⌝ }
+    ensures { λ r. ⌜ r ≡ scannedOf (prepared (take (t .written) (t .items))) ⌝ }
+{
+    let mut items = items_of(t);
+    let n = t.written;
+    let told = prepare(&mut items[..n]);
+    answered(items, told)
 }

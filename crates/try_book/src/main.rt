@@ -95,6 +95,19 @@ fn lookups() {
     clock(b"book=1\nclock=yes\ntimestamp={=u32:us}\nindex=7\ntag=str\ntext=yes\n");
 }
 
+// A timestamp and texts that begin like the first line of an entry.
+fn like_entries() {
+    let book =
+        b"book=1\nclock=yes\ntimestamp=index=3\nindex=1\ntag=info\ntext=index=2\nindex=3\ntag=prim\ntext=i\nindex=5\ntag=write\ntext=\n";
+    look(book, 0);
+    look(book, 1);
+    look(book, 2);
+    look(book, 3);
+    look(book, 4);
+    look(book, 5);
+    look(book, 6);
+}
+
 fn pieces() {
     cut(b"a|b||c", 0);
     cut(b"a|b||c", 1);
@@ -134,6 +147,7 @@ fn main() {
     rules::long_texts();
     rules::sizes();
     lookups();
+    like_entries();
     pieces();
     largest();
 }

@@ -9,6 +9,9 @@ ghost use Rattle.values.specs.Values.{little, unsignedAt, countAt, exten
 ghost use Rattle.values.specs.Steps.{Holds, Inside};
 
 pub mod bits;
+pub mod reader;
+
+use reader::Reader;
 
 // The two words of a value, and the place behind it.
 pub enum Read {
@@ -89,8 +92,8 @@ pub fn unsigned_at(message: &[u8], at: usize, w: usize) -> Read
     Read::Value(v.low, v.high, at + w)
 }
 
-// Inner: an index, a count or a variant: a number of at most 8 bytes in one word.
-pub fn count_at(message: &[u8], at: usize, w: usize) -> Count
+// A number of at most 8 bytes in one word.
+fn number_at(message: &[u8], at: usize, w: usize) -> Count
     requires { ⌜ w ≤ 8 ⌝ }
     ensures { λ r. ⌜ r ≡ countAt (now (message .entry)) at w ⌝ }
 {
@@ -98,6 +101,14 @@ pub fn count_at(message: &[u8], at: usize, w: usize) -> Count
         return Count::Short;
     }
     Count::Is(word(message, at, w), at + w)
+}
+
+// Inner: an index, a count or a variant, by a reader: the parameters are plain, so that no caller meets it.
+pub fn count_at(message: &[u8], at: usize, w: usize) -> Count
+    requires { ⌜ w ≤ 8 ⌝ }
+    ensures { λ r. ⌜ r ≡ countAt (now (message .entry)) at w ⌝ }
+{
+    Reader::new(message, at).number(w)
 }
 
 fn half_of(w: usize) -> u64
@@ -134,7 +145,7 @@ pub fn signed_at(message: &[u8], at: usize, w: usize) -> Read
     Read::Value(v.low, v.high, at + w)
 }
 
-pub fn bool_at(message: &[u8], at: usize) -> Read
+fn truth_at(message: &[u8], at: usize) -> Read
     ensures { λ r. ⌜ r ≡ boolAt (now (message .entry)) at ⌝ }
 {
     if message.len() <= at {
@@ -145,6 +156,13 @@ pub fn bool_at(message: &[u8], at: usize) -> Read
         return Read::Value(v, 0, at + 1);
     }
     Read::Bad
+}
+
+// A bool, by a reader.
+pub fn bool_at(message: &[u8], at: usize) -> Read
+    ensures { λ r. ⌜ r ≡ boolAt (now (message .entry)) at ⌝ }
+{
+    Reader::new(message, at).boolean()
 }
 
 pub fn char_at(message: &[u8], at: usize) -> Read

@@ -1,8 +1,8 @@
 //! The list for `replay_blocks`: codings without a zero, each with the crate's answer. A record is the coding's length in two bytes, low
 //! byte first, the coding, and then the message alike; a length of FFFF stands for a refusal.
 
+use crate::decode_blocks;
 use crate::random::Random;
-use crate::stream::rzcobs::decode_blocks;
 
 /// Document 01's encoder, in plain form: the crate has none. It only makes codings for the crate to judge.
 pub fn encode(message: &[u8]) -> Vec<u8> {
@@ -28,7 +28,7 @@ pub fn encode(message: &[u8]) -> Vec<u8> {
     out
 }
 
-fn part(list: &mut Vec<u8>, bytes: &[u8]) {
+pub fn part(list: &mut Vec<u8>, bytes: &[u8]) {
     list.extend_from_slice(&(bytes.len() as u16).to_le_bytes());
     list.extend_from_slice(bytes);
 }

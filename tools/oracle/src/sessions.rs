@@ -4,9 +4,7 @@
 
 use crate::blocks::encode;
 use crate::random::Random;
-use crate::stream::rzcobs::Rzcobs;
-use crate::stream::StreamDecoder;
-use crate::{DecodeError, Table};
+use crate::{BareTable, DecodeError, Rzcobs, StreamDecoder};
 
 fn part(list: &mut Vec<u8>, letter: u8, bytes: &[u8]) {
     list.push(letter);
@@ -48,7 +46,7 @@ fn wire(random: &mut Random) -> Vec<u8> {
 }
 
 fn session(list: &mut Vec<u8>, random: &mut Random) {
-    let table = Table;
+    let table = BareTable;
     let mut stream = Rzcobs::new(&table);
     list.push(b'n');
     let wire = wire(random);

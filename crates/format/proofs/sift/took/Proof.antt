@@ -1,6 +1,7 @@
+use mathlib.Core.Path.{refl}
 use native.Mathlib.Omega.{arith}
 use borrow.Author.Needs.{needs}
-use Rattle.format.proofs.StepLaws.{took-full, took-clash, took-one}
+use Rattle.format.proofs.StepLaws.{took-full, took-one}
 use Rattle.format.proofs.sift.took.Statement.{statement}
 use Rattle.format.proofs.sift.took.Tie as tie
 
@@ -9,10 +10,9 @@ took-spec =
     tie.close
     (tie.spec
     (λ c κs. search needs)
-    (λ c. took-full (c .before .before .before .args .t) _ _ _ (c .before .if1 .taken) _ (c .failed .ensures))
-    (λ c κs. (omega (arith, c .before .before .before .pre .fewer), c .before .before .before .pre .filled))
-    (λ c κs. search needs)
-    (λ c. took-clash (c .before .before .before .before .before .before .args .t) _ _ _ _ (c .before .before .add-to .ensures) (c .before .if2 .taken) _ (c .failed2 .ensures))
+    (λ c. took-full (c .before .before .before .args .t) _ _ _ (c .before .before .before .pre) (c .before .if1 .taken) _ (c .failed .ensures))
     (λ c. search needs)
-    (λ c κs. omega (arith, c .before .before .before .before .before .before .before .pre .counted, c .before .before .before .before .before .before .before .pre .few))
-    (λ c. took-one (c .before .before .before .before .before .before .before .before .args .t) _ _ _ _ (c .before .before .before .before .add-to .ensures) (c .before .before .before .before .before .before .before .before .pre) (c .before .before .before .before .before .before .if1 .left) (c .before .before .before .if2 .left) _ (c .counter-after .ensures)))
+    (λ c. search needs)
+    (λ c. search needs)
+    (λ c κs. omega (arith, c .before .before .before .pre .counted, c .before .before .before .pre .few))
+    (λ c. took-one (c .before .before .before .before .args .t) _ _ _ (c .before .before .before .before .pre) (c .before .before .if1 .left) _ refl _ (c .counter-after .ensures)))
