@@ -1,0 +1,27 @@
+-- What a step of the lines promises.
+use Prim.Native.Nat.{ℕ}
+use mathlib.Core.Path.{_≡_}
+use mathlib.Core.List.{List}
+use Rattle.answer.specs.Answer.{Bytes}
+use Rattle.put.specs.Put.{Put}
+use Rattle.lines.specs.Lines.{Gave, textRows, textBytes, textAnswer, outcomeLine, Took}
+use Rattle.lines.specs.declared.Given.{Given}
+use Rattle.lines.specs.declared.Turn.{Turn}
+
+-- the stream, the store and the lines as g says, where `out` is what the output held before
+pub record Gives (g : Gave) (out : Bytes) (at : ℕ) (r : Given) (store′ out′ : Bytes) : Type 0 where
+  pub stream : r .stream ≡ g .stream
+  pub store : store′ ≡ g .store
+  pub output : Put out at (g .lines) out′ (r .at)
+
+-- A message's line, and what its decoding and its text leave in the buffers.
+pub record PutsMessage (book message : Bytes) (rows rows′ : List ℕ) (text text′ out : Bytes) (at : ℕ) (out′ : Bytes) (q : ℕ) : Type 0 where
+  pub work : rows′ ≡ textRows book message rows text
+  pub bytes : text′ ≡ textBytes book message rows text
+  pub output : Put out at (outcomeLine (textAnswer book message rows text) (textBytes book message rows text)) out′ q
+
+-- One message is taken: the desk, the line and whether there may be more, as t says.
+pub record Takes (t : Took) (out : Bytes) (at : ℕ) (r : Turn) (store message : Bytes) (rows : List ℕ) (text out′ : Bytes) : Type 0 where
+  pub desk : record { stream = r .stream; store = store; message = message; rows = rows; text = text } ≡ t .desk
+  pub goes : r .goes ≡ t .goes
+  pub output : Put out at (t .line) out′ (r .at)

@@ -1,0 +1,206 @@
+// The program of 01 ("Text", its last part): a capture on standard input, a book in book.txt, and the lines that a clerk reads on
+// standard output. What a piece does and what taking a message does are the library's (`lines`); here are the buffers, the reading and
+// the writing.
+use answer::Verdict;
+use libc::STDIN_FILENO;
+use libc::STDOUT_FILENO;
+use stream::Stream;
+ghost use mathlib.Core.Path.{_≡_};
+ghost use Rattle.answer.specs.declared.Verdict.the-variants.{Ok};
+ghost use Rattle.book.specs.Book.{checked};
+
+const PIECE: usize = 1024;
+
+const STORE: usize = 4096;
+
+const MESSAGE: usize = 28672;
+
+const TEXT: usize = 32768;
+
+const ROWS: usize = 4096;
+
+// One byte more than a book may have, so that a longer one is seen to be longer.
+const BOOK: usize = 65537;
+
+// Lines are collected here and written together; one line always fits.
+const LINES: usize = 65536;
+
+// No line is longer than the text's buffer and this.
+const FRAME: usize = 16;
+
+fn write(s: &[u8]) {
+    if !io::write_all(STDOUT_FILENO, s) {
+        os::fail(b"standard output");
+    }
+}
+
+fn first(s: &[u8], n: usize) -> &[u8] {
+    if n <= s.len() { &s[..n] } else { s }
+}
+
+// Whether a byte of the file can be asked for: only a single read tells that reading failed.
+fn is_readable(fd: i32) -> bool {
+    let mut one = [0u8; 1];
+    if libc::read(fd, &mut one) < 0 {
+        os::fail(b"book.txt");
+        return false;
+    }
+    true
+}
+
+// The bytes of book.txt, and none where it cannot be read: no bytes are no book.
+fn read_book(buf: &mut [u8]) -> usize {
+    let probe = os::open_read(b"book.txt");
+    if probe < 0 {
+        os::fail(b"book.txt");
+        return 0;
+    }
+    let readable = is_readable(probe);
+    libc::close(probe);
+    if !readable {
+        return 0;
+    }
+    let fd = os::open_read(b"book.txt");
+    let n = io::read_full(fd, buf);
+    libc::close(fd);
+    n
+}
+
+// The place for another line: where the longest might not fit, what was collected is written first.
+fn ready(text: &[u8], out: &[u8], at: usize) -> usize {
+    if at < out.len() {
+        let room = out.len() - at;
+        if text.len() < room {
+            if FRAME <= room - text.len() {
+                return at;
+            }
+        }
+    }
+    write(first(out, at));
+    0
+}
+
+// All messages, taken and written. Each takes a byte of the store at least, so that there are fewer than it has bytes.
+fn take_all(
+    book: &[u8],
+    s: Stream,
+    store: &mut [u8],
+    message: &mut [u8],
+    rows: &mut [u64],
+    text: &mut [u8],
+    out: &mut [u8],
+    at: usize,
+) -> Stream
+    requires { ⌜ checked (now book) ≡ Ok ⌝ }
+{
+    let mut now = s;
+    let mut end = at;
+    let mut left = store.len();
+    while left > 0 {
+        left -= 1;
+        let q = ready(text, out, end);
+        let t = lines::take_one(book, now, store, message, rows, text, out, q);
+        now = t.stream;
+        end = t.at;
+        if !t.goes {
+            left = 0;
+        }
+    }
+    write(first(out, end));
+    now
+}
+
+// The stream after a piece, and whether standard input has ended.
+struct Played {
+    stream: Stream,
+    ended: bool,
+}
+
+// The next piece, full but for the last.
+fn round(
+    book: &[u8],
+    s: Stream,
+    piece: &mut [u8],
+    store: &mut [u8],
+    message: &mut [u8],
+    rows: &mut [u64],
+    text: &mut [u8],
+    out: &mut [u8],
+) -> Played
+    requires { ⌜ checked (now book) ≡ Ok ⌝ }
+{
+    let n = io::read_full(STDIN_FILENO, piece);
+    let g = lines::give(s, store, first(piece, n), out, 0);
+    let at = g.at;
+    let given = g.stream;
+    let t = take_all(book, given, store, message, rows, text, out, at);
+    Played {
+        stream: t,
+        ended: n == 0,
+    }
+}
+
+// The whole of standard input. A proved loop has to end, and nothing says that standard input does: the turns are more than any run has.
+fn run(
+    book: &[u8],
+    piece: &mut [u8],
+    store: &mut [u8],
+    message: &mut [u8],
+    rows: &mut [u64],
+    text: &mut [u8],
+    out: &mut [u8],
+)
+    requires { ⌜ checked (now book) ≡ Ok ⌝ }
+{
+    let mut s = stream::fresh();
+    let mut turns = u64::MAX;
+    while turns > 0 {
+        turns -= 1;
+        let r = round(book, s, piece, store, message, rows, text, out);
+        s = r.stream;
+        if r.ended {
+            turns = 0;
+        }
+    }
+    let held = s.held;
+    let end = lines::put_held(out, 0, held as u64);
+    write(first(out, end));
+}
+
+fn read(
+    book: &[u8],
+    piece: &mut [u8],
+    store: &mut [u8],
+    message: &mut [u8],
+    rows: &mut [u64],
+    text: &mut [u8],
+    out: &mut [u8],
+) {
+    match book::check(book) {
+        Verdict::Ok => run(book, piece, store, message, rows, text, out),
+        Verdict::Refused(r) => {
+            let end = lines::put_refusal(out, 0, r);
+            write(first(out, end));
+        }
+    }
+}
+
+fn main() {
+    let mut book = [0u8; BOOK];
+    let n = read_book(&mut book);
+    let mut piece = [0u8; PIECE];
+    let mut store = [0u8; STORE];
+    let mut message = [0u8; MESSAGE];
+    let mut rows = [0u64; ROWS];
+    let mut text = [0u8; TEXT];
+    let mut out = [0u8; LINES];
+    read(
+        first(&book, n),
+        &mut piece,
+        &mut store,
+        &mut message,
+        &mut rows,
+        &mut text,
+        &mut out,
+    );
+}
