@@ -266,7 +266,7 @@ fn judge_fragment(
     }
 }
 
-// A text over marked rows.
+// Inner: a text over marked rows.
 pub fn judge_format(
     book: &[u8],
     message: &[u8],
