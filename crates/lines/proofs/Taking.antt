@@ -72,11 +72,11 @@ front : (n : ℕ) (result old new : Bytes) → length result ≡ n → new ≡ r
 front n result old new c e = let k = ap length e ∙ length-append result (drop n old) in omega (arith, c, k)
 
 module _ (s : Stream) (store : Bytes) (room : ℕ) where
-  refused-by : (r : Refusal) → claims s store ≡ verdict.Refused r → takeAnswer s store room ≡ outcome.Refused r
+  pub refused-by : (r : Refusal) → claims s store ≡ verdict.Refused r → takeAnswer s store room ≡ outcome.Refused r
   unfolding takeAnswer
   refused-by r e = rw (e, takeAnswer)
 
-  waits-by : claims s store ≡ verdict.Ok → hasZero (take (s .held) store) ≡ false → takeAnswer s store room ≡ outcome.Refused refusal.Wait
+  pub waits-by : claims s store ≡ verdict.Ok → hasZero (take (s .held) store) ≡ false → takeAnswer s store room ≡ outcome.Refused refusal.Wait
   unfolding takeAnswer
   waits-by e z = rw (e, z, takeAnswer)
 

@@ -112,6 +112,9 @@ pub record Desk : Type 0 where
   pub rows : List ℕ
   pub text : Bytes
 
+abbrev pub deskOf : Stream → Bytes → Bytes → List ℕ → Bytes → Desk
+deskOf stream store message rows text = record { stream = stream; store = store; message = message; rows = rows; text = text }
+
 -- what taking a message leaves, the line that it writes, and whether there may be more
 pub record Took : Type 0 where
   pub desk : Desk
@@ -157,3 +160,48 @@ module _ (book : Bytes) (d : Desk) where
   -- one message: its text's line, or the line of a refusal; a frame that was dropped does not end the taking
   unfoldable pub tookOf : Took
   tookOf = tookBy (taken .answer)
+
+-- ---- all messages are taken
+
+-- No line is longer than the text's buffer and this: `text=` and the line's end are 6 bytes, `refused=`, two digits and the line's end 11.
+abbrev pub around : ℕ
+around = 16
+
+-- whether every line that a text's buffer of so many bytes can give has room behind `at`, in an output of `size` bytes
+unfoldable pub lineFits : (size at text : ℕ) → Bool
+lineFits size at text = leb (at + (text + around)) size
+
+-- what taking leaves, the lines, and whether the output lacks the room for another line, so that there may be more to take
+pub record All : Type 0 where
+  pub desk : Desk
+  pub lines : Bytes
+  pub more : Bool
+
+-- nothing is taken here
+abbrev pub rests : Bool → Desk → All
+rests more d = record { desk = d; lines = []; more = more }
+
+-- a line in front of what is taken next
+abbrev pub headed : Bytes → All → All
+headed line a = record { desk = a .desk; lines = line ++ a .lines; more = a .more }
+
+module _ (book : Bytes) (fits : ℕ → ℕ → Bool) where
+  -- at most so many messages, as long as there may be more and `fits` says that a line of such a text's buffer has room behind `at`
+  unfoldable pub allOf : ℕ → ℕ → Desk → All
+  allOf zero at d = rests false d
+  allOf (suc n) at d =
+      elim (fits at (length (d .text))) [
+        | false ↦ rests true d
+        | true ↦ headed (tookOf book d .line) (elim (tookOf book d .goes) [
+          | true ↦ allOf n (at + length (tookOf book d .line)) (tookOf book d .desk)
+          | false ↦ rests false (tookOf book d .desk)
+        ])
+      ]
+
+-- "It takes all after each piece". Each message that is taken drops a held byte at least, so that the count is never used up.
+unfoldable pub every : Bytes → Desk → All
+every book d = allOf book (λ at text. true) (suc (d .stream .held)) 0 d
+
+-- the same behind `at` of an output of `size` bytes, as long as that has room
+unfoldable pub takenAll : Bytes → ℕ → ℕ → Desk → All
+takenAll book size at d = allOf book (lineFits size) (suc (d .stream .held)) at d

@@ -1,12 +1,14 @@
 -- What a step of the lines promises.
-use Prim.Native.Nat.{ℕ}
+use Prim.Native.Nat.{ℕ, _+_}
 use mathlib.Core.Path.{_≡_}
 use mathlib.Core.List.{List}
+use lib.ListN.{length}
 use Rattle.answer.specs.Answer.{Bytes}
-use Rattle.put.specs.Put.{Put}
-use Rattle.lines.specs.Lines.{Gave, textRows, textBytes, textAnswer, outcomeLine, Took}
+use Rattle.put.specs.Put.{Put, written}
+use Rattle.lines.specs.Lines.{Gave, textRows, textBytes, textAnswer, outcomeLine, deskOf, Took, All}
 use Rattle.lines.specs.declared.Given.{Given}
 use Rattle.lines.specs.declared.Turn.{Turn}
+use Rattle.lines.specs.declared.Collected.{Collected}
 
 -- the stream, the store and the lines as g says, where `out` is what the output held before
 pub record Gives (g : Gave) (out : Bytes) (at : ℕ) (r : Given) (store′ out′ : Bytes) : Type 0 where
@@ -22,6 +24,13 @@ pub record PutsMessage (book message : Bytes) (rows rows′ : List ℕ) (text te
 
 -- One message is taken: the desk, the line and whether there may be more, as t says.
 pub record Takes (t : Took) (out : Bytes) (at : ℕ) (r : Turn) (store message : Bytes) (rows : List ℕ) (text out′ : Bytes) : Type 0 where
-  pub desk : record { stream = r .stream; store = store; message = message; rows = rows; text = text } ≡ t .desk
+  pub desk : deskOf (r .stream) store message rows text ≡ t .desk
   pub goes : r .goes ≡ t .goes
   pub output : Put out at (t .line) out′ (r .at)
+
+-- All messages are taken, as a says. The room for each line was seen before it, so that the lines stand there whole, in every case.
+pub record TakesAll (a : All) (out : Bytes) (at : ℕ) (r : Collected) (store message : Bytes) (rows : List ℕ) (text out′ : Bytes) : Type 0 where
+  pub desk : deskOf (r .stream) store message rows text ≡ a .desk
+  pub more : r .more ≡ a .more
+  pub place : r .at ≡ at + length (a .lines)
+  pub output : out′ ≡ written out at (a .lines)

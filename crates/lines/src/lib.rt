@@ -1,10 +1,11 @@
 // The lines that a capture gives (01, "Text", the program): what a piece does to the stream and to the output.
 ghost use mathlib.Core.Path.{_≡_};
+ghost use lib.ListN.{length};
 ghost use Rattle.answer.specs.declared.Verdict.the-variants.{Ok};
 ghost use Rattle.put.specs.Put.{Put};
 ghost use Rattle.book.specs.Book.{checked};
-ghost use Rattle.lines.specs.Lines.{toldNumber, refusalLine, textLine, heldLine, verdictLine, isFull, receiveOf, againOf, giveOf, stopLine, tookOf};
-ghost use Rattle.lines.specs.Steps.{Gives, PutsMessage, Takes};
+ghost use Rattle.lines.specs.Lines.{toldNumber, refusalLine, textLine, heldLine, verdictLine, isFull, receiveOf, againOf, giveOf, stopLine, deskOf, tookOf, lineFits, takenAll};
+ghost use Rattle.lines.specs.Steps.{Gives, PutsMessage, Takes, TakesAll};
 use answer::Outcome;
 use answer::Refusal;
 use answer::Verdict;
@@ -23,6 +24,9 @@ const WAIT: u64 = 3;
 const FULL: u64 = 4;
 
 const NEWLINE: u8 = 10;
+
+// No line is longer than the text's buffer and this.
+const AROUND: usize = 16;
 
 // The stream, and the place in the output behind the lines.
 pub struct Given {
@@ -162,7 +166,7 @@ pub fn take_one(
     at: usize,
 ) -> Turn
     requires { ⌜ checked (now book) ≡ Ok ⌝ }
-    ensures { λ r. ⌜ Takes (tookOf (now (book .entry)) (record { stream = s; store = now (store .entry); message = now (message .entry); rows = now (rows .entry); text = now (text .entry) })) (now (out .entry)) at r (now (store .exit)) (now (message .exit)) (now (rows .exit)) (now (text .exit)) (now (out .exit)) ⌝ }
+    ensures { λ r. ⌜ Takes (tookOf (now (book .entry)) (deskOf s (now (store .entry)) (now (message .entry)) (now (rows .entry)) (now (text .entry)))) (now (out .entry)) at r (now (store .exit)) (now (message .exit)) (now (rows .exit)) (now (text .exit)) (now (out .exit)) ⌝ }
 {
     let t = stream::take(s, store, message);
     let after = t.stream;
@@ -184,5 +188,64 @@ pub fn take_one(
                 goes: answer::number(r) == MALFORMED,
             }
         }
+    }
+}
+
+// Has every line that a text's buffer of so many bytes can give room behind `at`?
+fn line_fits(size: usize, at: usize, text: usize) -> bool
+    ensures { λ b. ⌜ b ≡ lineFits size at text ⌝ }
+{
+    if size < at {
+        return false;
+    }
+    let room = size - at;
+    if room < text {
+        return false;
+    }
+    AROUND <= room - text
+}
+
+// The stream, the place in the output behind the lines, and whether the output lacks the room for another line.
+pub struct Collected {
+    pub stream: Stream,
+    pub at: usize,
+    pub more: bool,
+}
+
+// Inner: every message that is there, by a checked book, as long as the output has room. Where there may be more, the caller writes what
+// was collected and calls again.
+pub fn take_all(
+    book: &[u8],
+    s: Stream,
+    store: &mut [u8],
+    message: &mut [u8],
+    rows: &mut [u64],
+    text: &mut [u8],
+    out: &mut [u8],
+    at: usize,
+) -> Collected
+    requires { ⌜ checked (now book) ≡ Ok ⌝ }
+    ensures { λ r. ⌜ TakesAll (takenAll (now (book .entry)) (length (now (out .entry))) at (deskOf s (now (store .entry)) (now (message .entry)) (now (rows .entry)) (now (text .entry)))) (now (out .entry)) at r (now (store .exit)) (now (message .exit)) (now (rows .exit)) (now (text .exit)) (now (out .exit)) ⌝ }
+{
+    let mut left = s;
+    let mut end = at;
+    let mut goes = true;
+    while goes {
+        if !line_fits(out.len(), end, text.len()) {
+            return Collected {
+                stream: left,
+                at: end,
+                more: true,
+            };
+        }
+        let t = take_one(book, left, store, message, rows, text, out, end);
+        left = t.stream;
+        end = t.at;
+        goes = t.goes;
+    }
+    Collected {
+        stream: left,
+        at: end,
+        more: false,
     }
 }

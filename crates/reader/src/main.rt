@@ -1,13 +1,16 @@
 // The program of 01 ("Text", its last part): a capture on standard input, a book in book.txt, and the lines that a clerk reads on
-// standard output. What a piece does and what taking a message does are the library's (`lines`); here are the buffers, the reading and
+// standard output. What a piece does and what taking its messages does are the library's (`lines`); here are the buffers, the reading and
 // the writing.
 use answer::Verdict;
 use libc::STDIN_FILENO;
 use libc::STDOUT_FILENO;
 use stream::Stream;
 ghost use mathlib.Core.Path.{_≡_};
+ghost use Prim.Native.Nat.{_+_, _≤_};
+ghost use lib.ListN.{length};
 ghost use Rattle.answer.specs.declared.Verdict.the-variants.{Ok};
 ghost use Rattle.book.specs.Book.{checked};
+ghost use Rattle.lines.specs.Lines.{deskOf, around, every};
 
 const PIECE: usize = 1024;
 
@@ -24,9 +27,6 @@ const BOOK: usize = 65537;
 
 // Lines are collected here and written together; one line always fits.
 const LINES: usize = 65536;
-
-// No line is longer than the text's buffer and this.
-const FRAME: usize = 16;
 
 fn write(s: &[u8]) {
     if !io::write_all(STDOUT_FILENO, s) {
@@ -66,21 +66,7 @@ fn read_book(buf: &mut [u8]) -> usize {
     n
 }
 
-// The place for another line: where the longest might not fit, what was collected is written first.
-fn ready(text: &[u8], out: &[u8], at: usize) -> usize {
-    if at < out.len() {
-        let room = out.len() - at;
-        if text.len() < room {
-            if FRAME <= room - text.len() {
-                return at;
-            }
-        }
-    }
-    write(first(out, at));
-    0
-}
-
-// All messages, taken and written. Each takes a byte of the store at least, so that there are fewer than it has bytes.
+// All messages, taken and written. The whole output has room for the longest line, so a call at its start that leaves more took one.
 fn take_all(
     book: &[u8],
     s: Stream,
@@ -92,22 +78,20 @@ fn take_all(
     at: usize,
 ) -> Stream
     requires { ⌜ checked (now book) ≡ Ok ⌝ }
+    requires { ⌜ length (now text) + around ≤ length (now out) ⌝ }
+    ensures { λ r. ⌜ deskOf r (now (store .exit)) (now (message .exit)) (now (rows .exit)) (now (text .exit)) ≡ every (now (book .entry)) (deskOf s (now (store .entry)) (now (message .entry)) (now (rows .entry)) (now (text .entry))) .desk ⌝ }
 {
-    let mut now = s;
+    let mut left = s;
     let mut end = at;
-    let mut left = store.len();
-    while left > 0 {
-        left -= 1;
-        let q = ready(text, out, end);
-        let t = lines::take_one(book, now, store, message, rows, text, out, q);
-        now = t.stream;
-        end = t.at;
-        if !t.goes {
-            left = 0;
-        }
+    let mut more = true;
+    while more {
+        let t = lines::take_all(book, left, store, message, rows, text, out, end);
+        write(first(out, t.at));
+        left = t.stream;
+        end = 0;
+        more = t.more;
     }
-    write(first(out, end));
-    now
+    left
 }
 
 // The stream after a piece, and whether standard input has ended.
@@ -128,6 +112,7 @@ fn round(
     out: &mut [u8],
 ) -> Played
     requires { ⌜ checked (now book) ≡ Ok ⌝ }
+    requires { ⌜ length (now text) + around ≤ length (now out) ⌝ }
 {
     let n = io::read_full(STDIN_FILENO, piece);
     let g = lines::give(s, store, first(piece, n), out, 0);
@@ -151,6 +136,7 @@ fn run(
     out: &mut [u8],
 )
     requires { ⌜ checked (now book) ≡ Ok ⌝ }
+    requires { ⌜ length (now text) + around ≤ length (now out) ⌝ }
 {
     let mut s = stream::fresh();
     let mut turns = u64::MAX;
@@ -175,7 +161,9 @@ fn read(
     rows: &mut [u64],
     text: &mut [u8],
     out: &mut [u8],
-) {
+)
+    requires { ⌜ length (now text) + around ≤ length (now out) ⌝ }
+{
     match book::check(book) {
         Verdict::Ok => run(book, piece, store, message, rows, text, out),
         Verdict::Refused(r) => {

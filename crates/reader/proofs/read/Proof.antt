@@ -9,7 +9,7 @@ read-spec =
     (tie.spec
     (λ c κs. search needs)
     (λ c. search needs)
-    (λ c κs. sym (c .before .before .before .before .before .before .before .before .check .ensures) ∙ c .before .before .before .before .before .before .enum-told .given .1)
+    (λ c κs. (sym (c .before .before .before .before .before .before .before .before .check .ensures) ∙ c .before .before .before .before .before .before .enum-told .given .1, search needs))
     (λ c. search needs)
     (λ c κs. search needs)
     (λ c κs. search needs)
