@@ -8,20 +8,24 @@ use native.Mathlib.Numerals.{add-one}
 use native.Mathlib.Omega.{arith}
 use lib.ListN.{length, set, take, drop, replicate, length-append, length-drop, length-replicate, replicate-append-replicate}
 use lib.Seq.{take-append-seam, drop-append-add, take-suc-set, drop-set-lt, length-take-le}
-use borrow.Author.Tests.{le-leb, lt-leb}
+use lib.Dec.{ltb}
+use borrow.Author.Tests.{le-leb, lt-leb, lt-ltb, le-ltb, ltb-true, ltb-false}
 use Rattle.parts.specs.Parts.{Bytes, part}
-use Rattle.parts.proofs.Places.{by-test, never}
+use Rattle.parts.proofs.Places.{never}
 use Rattle.format.specs.Grammar.{counterAfter, nextAt}
 use Rattle.format.specs.Pieces.{Piece, literal, shown, consed, piecesFrom, pieces}
 use Rattle.format.specs.Params.{asked, gather, inOrder, complete, prepared, scanOf, blank, padded, scannedOf}
-use Rattle.format.specs.Steps.{Kept, Left, Fits, front, Fine, Failed, judged, goes-on, Took, Stepped}
+use Rattle.format.specs.Steps.{Kept, Left, Fits, front, Few, Filled, tookOf, strideOf, judged}
 use Rattle.format.specs.declared.hints.Hint.{Hint}
 use Rattle.format.specs.declared.fragments.Param.{Param}
+use Rattle.format.specs.declared.fragments.Fragment.{Fragment}
 use Rattle.format.specs.declared.fragments.Fragment.the-variants.{Literal, Parameter, End, Bad}
 use Rattle.format.specs.declared.params.Scanned.{Scanned}
 use Rattle.format.specs.declared.records.Told.{Told}
 use Rattle.format.specs.declared.records.Told.the-variants.{Count, Clash}
 use Rattle.format.specs.declared.sift.Sifted.{Sifted}
+use Rattle.format.specs.declared.sift.Stride.{Stride}
+use Rattle.format.specs.declared.sift.Stride.the-variants as stride
 use Rattle.format.proofs.InPlace.{take-drop, drop-blanks}
 use Rattle.format.proofs.Progress.{literal-past, parameter-past, end-past}
 use Rattle.format.proofs.Walking.{pieces-bad, pieces-literal, pieces-parameter, pieces-past}
@@ -88,90 +92,15 @@ module _ (written : List Param) (p : Param) (h : Hint) where
 -- ---- the returns of `took`
 
 module _ (t : Sifted) (p : Param) (counted : Bool) (next : ℕ) where
-  stopped : (r : Sifted) → Failed r → ((h : Hint) (w : Option (List Piece)) → goes-on false t (consed (shown p h) w) ≡ none) → Took t p counted next r
-  stopped r f n = record {
-    fine = f .fine;
-    place = λ e. never (r .bad) (f .bad) e;
-    counter = λ e. never (r .bad) (f .bad) e;
-    is = λ h w. n h w ∙ sym (ap (λ (b : Bool). goes-on b r w) (f .bad));
-  }
+  pub took-full : 32 ≤ t .written → stride.Bad ≡ tookOf t p counted next
+  unfolding tookOf
+  took-full l = rw (le-ltb (t .written) 32 l, tookOf)
 
-  module _ (f : Fine t) where
-    count : length (take (t .written) (t .items)) ≡ t .written
-    count = length-take-le (t .written) (t .items) (fits (t .items) (t .written) (f .filled) (f .few))
+  pub took-one : t .written < 32 → (c : ℕ) → c ≡ counterAfter counted (t .counter) → stride.Asks p (record { written = t .written + 1; counter = c; at = next }) ≡ tookOf t p counted next
+  unfolding tookOf
+  took-one l c e = rw (lt-ltb (t .written) 32 l, e, tookOf)
 
-    pub took-full : 32 ≤ t .written → (r : Sifted) → Failed r → Took t p counted next r
-    took-full l r f = stopped r f (λ h w. judged-full (take (t .written) (t .items)) p h (omega (arith, count)) w)
-
-    module _ (l : t .written < 32) (items : List Param) (e : items ≡ set (t .items) (t .written) p) where
-      front-more : take (t .written + 1) items ≡ take (t .written) (t .items) ++ (p ∷ [])
-      front-more =
-          ap₂ take (add-one (t .written)) e ∙ take-suc-set (t .items) (t .written) p (omega (arith, f .few, ap length (f .filled), long (take (t .written) (t .items))))
-
-      behind : drop (t .written + 1) (t .items) ≡ replicate (32 - (t .written + 1)) blank
-      unfolding padded
-      behind =
-          let a = take (t .written) (t .items) in
-          let z : 32 - length a ≡ suc (32 - (t .written + 1)) = omega (arith, count) in
-          ap (drop (t .written + 1)) (f .filled)
-          ∙ ap₂ (λ (k j : ℕ). drop (k + 1) (a ++ replicate j blank)) (sym count) z
-          ∙ drop-append-add a (replicate (suc (32 - (t .written + 1))) blank) 1
-
-      filled-more : items ≡ padded (take (t .written + 1) items)
-      unfolding padded
-      filled-more =
-          let a = take (t .written) (t .items) ++ (p ∷ []) in
-          let z : t .written + 1 ≡ length a = simp length-append (omega (arith, count)) in
-          sym (take-drop (t .written + 1) items)
-          ∙ ap₂ _++_ front-more (ap (drop (t .written + 1)) e ∙ drop-set-lt (t .written + 1) (t .items) (t .written) p (omega arith) ∙ behind)
-          ∙ ap (λ (k : ℕ). a ++ replicate (32 - k) blank) z
-          ∙ ap padded (sym front-more)
-
-      pub took-one : (c : ℕ) → c ≡ counterAfter counted (t .counter) → Took t p counted next (record { items = items; written = t .written + 1; counter = c; at = next; bad = false })
-      took-one c ec = record {
-        fine = record { filled = filled-more; counted = omega (arith, counter-few counted (t .counter), f .counted); few = omega arith };
-        place = λ _. refl;
-        counter = λ _. ec;
-        is = λ h w. judged-more (take (t .written) (t .items)) p h w ∙ ap (λ (a : List Param). judged a w) (sym front-more);
-      }
-
--- ---- the returns of `step`
-
-module _ (s : Bytes) (t : Sifted) where
-  pub step-literal : (from to n : ℕ) → Fine t → nextAt s (t .at) (t .counter) ≡ Literal from to n
-      → Stepped s t (record { items = t .items; written = t .written; counter = t .counter; at = n; bad = false })
-  step-literal from to n f e = record {
-    fine = record { filled = f .filled; counted = f .counted; few = f .few };
-    later = λ _. literal-past s (t .at) (t .counter) from to n e .0;
-    is =
-        ap (goes-on false t) (pieces-literal s (t .at) (t .counter) from to n e)
-        ∙ judged-literal (take (t .written) (t .items)) (part s from to) (piecesFrom s n (t .counter));
-  }
-
-  module _ (r : Sifted) where
-    pub step-parameter : (p : Param) (h : Hint) (counted : Bool) (n : ℕ) → nextAt s (t .at) (t .counter) ≡ Parameter p h counted n → Took t p counted n r → Stepped s t r
-    step-parameter p h counted n e k = record {
-      fine = k .fine;
-      later = λ g. let l = parameter-past s (t .at) (t .counter) p h counted n e .0 in let q = k .place g in omega arith;
-      is =
-          ap (goes-on false t) (pieces-parameter s (t .at) (t .counter) p h counted n e)
-          ∙ k .is h (piecesFrom s n (counterAfter counted (t .counter)))
-          ∙ by-test (r .bad)
-          (λ g. ap (λ (b : Bool). goes-on b r (piecesFrom s n (counterAfter counted (t .counter)))) g ∙ sym (ap (λ (b : Bool). goes-on b r (piecesFrom s (r .at) (r .counter))) g))
-          (λ g. ap₂ (λ (i c : ℕ). goes-on (r .bad) r (piecesFrom s i c)) (sym (k .place g)) (sym (k .counter g)));
-    }
-
-    pub step-bad : (n : ℕ) → nextAt s (t .at) (t .counter) ≡ Bad n → Failed r → Stepped s t r
-    step-bad n e f = record {
-      fine = f .fine;
-      later = λ g. never (r .bad) (f .bad) g;
-      is = ap (goes-on false t) (pieces-bad s (t .at) (t .counter) n e) ∙ sym (ap (λ (b : Bool). goes-on b r (piecesFrom s (r .at) (r .counter))) (f .bad));
-    }
-
-    pub step-end : t .at < length s → nextAt s (t .at) (t .counter) ≡ End → Stepped s t r
-    step-end l e = absurd (let h = end-past s (t .at) (t .counter) e in let z : ⊥ = omega arith in z)
-
--- ---- the returns of `answered`, of `finished` and of `scan`
+-- ---- the returns of `answered` and of `finished`
 
 module _ (items : List Param) (told : Told) where
   pub answered-clash : told ≡ Clash → (r : Scanned) → r ≡ scannedOf none → r ≡ scannedOf (complete (front items told))
@@ -193,10 +122,6 @@ module _ (items : List Param) (told : Told) where
 
       pub answered-bad : b ≡ false → (r : Scanned) → r ≡ scannedOf none → r ≡ scannedOf (complete (front items told))
       answered-bad h r f = f ∙ ap scannedOf (sym (in-order h))
-
--- the first parameters of an array were prepared, and the blanks behind them stand as they did
-pub same-items : (t : Sifted) → Fine t → (items : List Param) → items ≡ t .items → items ≡ padded (take (t .written) items)
-same-items t f items e = subst (λ (z : List Param). z ≡ padded (take (t .written) z)) (sym e) (f .filled)
 
 module _ (items : List Param) (n : ℕ) (filled : items ≡ padded (take n items)) (few : n ≤ 32) where
   abbrev written : List Param
@@ -242,30 +167,149 @@ module _ (items : List Param) (n : ℕ) (filled : items ≡ padded (take n items
     finished-is (Count k) a = judges (some (take k after)) (a .are ∙ ap some (sym (in-front k a)))
     finished-is Clash a = judges none a
 
-pub record Going (s : Bytes) (t : Sifted) : Type 0 where
-  pub fine : Fine t
-  pub so : goes-on false t (piecesFrom s (t .at) (t .counter)) ≡ scanOf s
+-- ---- what the loop of `scan` keeps
+
+pub record Going (s : Bytes) (items : List Param) (t : Sifted) : Type 0 where
+  pub bounds : Few t
+  pub filled : Filled items (t .written)
+  pub so : judged (take (t .written) items) (piecesFrom s (t .at) (t .counter)) ≡ scanOf s
 
 first : (s : Bytes) (w : Option (List Piece)) → pieces s ≡ w → judged [] w ≡ scanOf s
 unfolding scanOf
 first s none e = sym (rw (e, scanOf))
 first s (some ps) e = sym (rw (e, scanOf))
 
-pub going-first : (s : Bytes) (items : List Param) → items ≡ padded [] → Going s (record { items = items; written = 0; counter = 0; at = 0; bad = false })
+pub going-first : (s : Bytes) (items : List Param) → items ≡ padded [] → Going s items (record { written = 0; counter = 0; at = 0 })
 unfolding pieces
-going-first s items e = record { fine = record { filled = e; counted = omega arith; few = omega arith }; so = first s (piecesFrom s 0 0) refl }
+going-first s items e = record {
+  bounds = record { counted = omega arith; few = omega arith };
+  filled = record { filled = e; few = omega arith };
+  so = first s (piecesFrom s 0 0) refl;
+}
 
-module _ (s : Bytes) (t : Sifted) (g : Going s t) where
-  none-left : judged (take (t .written) (t .items)) (some []) ≡ prepared (take (t .written) (t .items))
+-- no fragment asks where 32 are written
+took-past : (b : Bool) (p : Param) (x u : Sifted) → _≡_ {A = Stride} (elim b [ true ↦ stride.Asks p x | false ↦ stride.Bad ]) (stride.Past u) → ⊥
+took-past true p x u e = let z : _≡_ {A = ℕ} 0 1 = cc in omega arith
+took-past false p x u e = let z : _≡_ {A = ℕ} 0 1 = cc in omega arith
+
+module _ (s : Bytes) (items : List Param) (t : Sifted) (g : Going s items t) where
+  abbrev front-items : List Param
+  front-items = take (t .written) items
+
+  count : length front-items ≡ t .written
+  count = length-take-le (t .written) items (fits items (t .written) (g .filled .filled) (g .filled .few))
+
+  none-left : judged front-items (some []) ≡ prepared front-items
   unfolding asked
-  none-left = ap prepared (append-nil (take (t .written) (t .items)))
+  none-left = ap prepared (append-nil front-items)
 
-  pub going-ends : length s ≤ t .at → (r : Scanned) → r ≡ scannedOf (prepared (take (t .written) (t .items))) → r ≡ scannedOf (scanOf s)
-  going-ends l r e = e ∙ ap scannedOf (sym none-left ∙ ap (goes-on false t) (sym (pieces-past s (t .at) (t .counter) l)) ∙ g .so)
+  pub going-ends : length s ≤ t .at → (r : Scanned) → r ≡ scannedOf (prepared front-items) → r ≡ scannedOf (scanOf s)
+  going-ends l r e = e ∙ ap scannedOf (sym none-left ∙ ap (judged front-items) (sym (pieces-past s (t .at) (t .counter) l)) ∙ g .so)
 
-  module _ (u : Sifted) (k : Stepped s t u) where
-    pub going-stops : u .bad ≡ true → (r : Scanned) → r ≡ scannedOf none → r ≡ scannedOf (scanOf s)
-    going-stops b r e = e ∙ ap scannedOf (sym (ap (λ (z : Bool). goes-on z u (piecesFrom s (u .at) (u .counter))) b) ∙ sym (k .is) ∙ g .so)
+  -- ---- literal bytes
 
-    pub going-on : u .bad ≡ false → Going s u
-    going-on b = record { fine = k .fine; so = sym (ap (λ (z : Bool). goes-on z u (piecesFrom s (u .at) (u .counter))) b) ∙ sym (k .is) ∙ g .so }
+  literal-goes : (from to n : ℕ) → nextAt s (t .at) (t .counter) ≡ Literal from to n → (t .at < n) × Going s items (record { written = t .written; counter = t .counter; at = n })
+  literal-goes from to n e = (
+    literal-past s (t .at) (t .counter) from to n e .0,
+    record {
+      bounds = record { counted = g .bounds .counted; few = g .bounds .few };
+      filled = g .filled;
+      so =
+          sym (ap (judged front-items) (pieces-literal s (t .at) (t .counter) from to n e) ∙ judged-literal front-items (part s from to) (piecesFrom s n (t .counter)))
+          ∙ g .so;
+    },
+  )
+
+  past-by : (f : Fragment) (u : Sifted) → nextAt s (t .at) (t .counter) ≡ f → strideOf t f ≡ stride.Past u → (t .at < u .at) × Going s items u
+  unfolding tookOf
+  past-by (Literal from to n) u e h =
+      let k : record { written = t .written; counter = t .counter; at = n } ≡ u = cc in subst (λ (z : Sifted). (t .at < z .at) × Going s items z) k (literal-goes from to n e)
+  past-by (Parameter p i counted n) u e h =
+      absurd (took-past (ltb (t .written) 32) p (record { written = t .written + 1; counter = counterAfter counted (t .counter); at = n }) u h)
+  past-by End u e h = let z : _≡_ {A = ℕ} 0 1 = cc in absurd (let w : ⊥ = omega arith in w)
+  past-by (Bad n) u e h = let z : _≡_ {A = ℕ} 0 1 = cc in absurd (let w : ⊥ = omega arith in w)
+
+  pub going-past : (r : Stride) (u : Sifted) → r ≡ strideOf t (nextAt s (t .at) (t .counter)) → r ≡ stride.Past u → (t .at < u .at) × Going s items u
+  going-past r u e h = past-by (nextAt s (t .at) (t .counter)) u refl (sym e ∙ h)
+
+  -- ---- a parameter
+
+  module _ (p : Param) (l : t .written < 32) (more : List Param) (e : more ≡ set items (t .written) p) where
+    front-more : take (t .written + 1) more ≡ front-items ++ (p ∷ [])
+    front-more = ap₂ take (add-one (t .written)) e ∙ take-suc-set items (t .written) p (omega (arith, ap length (g .filled .filled), long front-items))
+
+    behind : drop (t .written + 1) items ≡ replicate (32 - (t .written + 1)) blank
+    unfolding padded
+    behind =
+        let z : 32 - length front-items ≡ suc (32 - (t .written + 1)) = omega (arith, count) in
+        ap (drop (t .written + 1)) (g .filled .filled)
+        ∙ ap₂ (λ (k j : ℕ). drop (k + 1) (front-items ++ replicate j blank)) (sym count) z
+        ∙ drop-append-add front-items (replicate (suc (32 - (t .written + 1))) blank) 1
+
+    filled-more : more ≡ padded (take (t .written + 1) more)
+    unfolding padded
+    filled-more =
+        let a = front-items ++ (p ∷ []) in
+        let z : t .written + 1 ≡ length a = simp length-append (omega (arith, count)) in
+        sym (take-drop (t .written + 1) more)
+        ∙ ap₂ _++_ front-more (ap (drop (t .written + 1)) e ∙ drop-set-lt (t .written + 1) items (t .written) p (omega arith) ∙ behind)
+        ∙ ap (λ (k : ℕ). a ++ replicate (32 - k) blank) z
+        ∙ ap padded (sym front-more)
+
+    parameter-goes : (h : Hint) (counted : Bool) (n : ℕ) → nextAt s (t .at) (t .counter) ≡ Parameter p h counted n
+        → Going s more (record { written = t .written + 1; counter = counterAfter counted (t .counter); at = n })
+    parameter-goes h counted n k = record {
+      bounds = record { counted = omega (arith, counter-few counted (t .counter), g .bounds .counted); few = omega arith };
+      filled = record { filled = filled-more; few = omega arith };
+      so =
+          ap (λ (a : List Param). judged a (piecesFrom s n (counterAfter counted (t .counter)))) front-more
+          ∙ sym (ap (judged front-items) (pieces-parameter s (t .at) (t .counter) p h counted n k) ∙ judged-more front-items p h (piecesFrom s n (counterAfter counted (t .counter))))
+          ∙ g .so;
+    }
+
+  -- the next parameter has a place, and the scan goes on behind it
+  pub record Asked (p : Param) (u : Sifted) : Type 0 where
+    pub free : t .written < 32
+    pub later : t .at < u .at
+    pub going : (more : List Param) → more ≡ set items (t .written) p → Going s more u
+
+  asked-one : (b : Bool) → ltb (t .written) 32 ≡ b → (q p : Param) (h : Hint) (counted : Bool) (n : ℕ) (u : Sifted) → nextAt s (t .at) (t .counter) ≡ Parameter q h counted n
+      → _≡_ {A = Stride} (elim b [ true ↦ stride.Asks q (record { written = t .written + 1; counter = counterAfter counted (t .counter); at = n }) | false ↦ stride.Bad ]) (stride.Asks p u)
+      → Asked p u
+  asked-one true b q p h counted n u e k =
+      let l = ltb-true (t .written) 32 b in
+      let x : q ≡ p = cc in
+      let y : record { written = t .written + 1; counter = counterAfter counted (t .counter); at = n } ≡ u = cc in
+      subst (λ (z : Param). Asked z u) x
+      (subst (Asked q) y (record { free = l; later = parameter-past s (t .at) (t .counter) q h counted n e .0; going = λ more i. parameter-goes q l more i h counted n e }))
+  asked-one false b q p h counted n u e k = let z : _≡_ {A = ℕ} 0 1 = cc in absurd (let w : ⊥ = omega arith in w)
+
+  asked-by : (f : Fragment) (p : Param) (u : Sifted) → nextAt s (t .at) (t .counter) ≡ f → strideOf t f ≡ stride.Asks p u → Asked p u
+  unfolding tookOf
+  asked-by (Literal from to n) p u e h = let z : _≡_ {A = ℕ} 0 1 = cc in absurd (let w : ⊥ = omega arith in w)
+  asked-by (Parameter q i counted n) p u e h = asked-one (ltb (t .written) 32) refl q p i counted n u e h
+  asked-by End p u e h = let z : _≡_ {A = ℕ} 0 1 = cc in absurd (let w : ⊥ = omega arith in w)
+  asked-by (Bad n) p u e h = let z : _≡_ {A = ℕ} 0 1 = cc in absurd (let w : ⊥ = omega arith in w)
+
+  pub going-asks : (r : Stride) (p : Param) (u : Sifted) → r ≡ strideOf t (nextAt s (t .at) (t .counter)) → r ≡ stride.Asks p u → Asked p u
+  going-asks r p u e h = asked-by (nextAt s (t .at) (t .counter)) p u refl (sym e ∙ h)
+
+  -- ---- FORMAT
+
+  full-by : (b : Bool) → ltb (t .written) 32 ≡ b → (p : Param) (h : Hint) (x : Sifted) (w : Option (List Piece)) → _≡_ {A = Stride} (elim b [ true ↦ stride.Asks p x | false ↦ stride.Bad ]) stride.Bad
+      → judged front-items (consed (shown p h) w) ≡ none
+  full-by true b p h x w e = let z : _≡_ {A = ℕ} 0 1 = cc in absurd (let v : ⊥ = omega arith in v)
+  full-by false b p h x w e = judged-full front-items p h (omega (arith, count, ltb-false (t .written) 32 b)) w
+
+  bad-by : t .at < length s → (f : Fragment) → nextAt s (t .at) (t .counter) ≡ f → strideOf t f ≡ stride.Bad → scanOf s ≡ none
+  unfolding tookOf
+  bad-by l (Literal from to n) e h = let z : _≡_ {A = ℕ} 0 1 = cc in absurd (let w : ⊥ = omega arith in w)
+  bad-by l (Parameter p i counted n) e h =
+      sym (g .so)
+      ∙ ap (judged front-items) (pieces-parameter s (t .at) (t .counter) p i counted n e)
+      ∙ full-by (ltb (t .written) 32) refl p i (record { written = t .written + 1; counter = counterAfter counted (t .counter); at = n }) (piecesFrom s n (counterAfter counted (t .counter))) h
+  bad-by l End e h = absurd (let k = end-past s (t .at) (t .counter) e in let z : ⊥ = omega arith in z)
+  bad-by l (Bad n) e h = sym (g .so) ∙ ap (judged front-items) (pieces-bad s (t .at) (t .counter) n e)
+
+  pub going-stops : t .at < length s → (r : Stride) → r ≡ strideOf t (nextAt s (t .at) (t .counter)) → r ≡ stride.Bad → (a : Scanned) → a ≡ scannedOf none → a ≡ scannedOf (scanOf s)
+  going-stops l r e h a k = k ∙ ap scannedOf (sym (bad-by l (nextAt s (t .at) (t .counter)) refl (sym e ∙ h)))

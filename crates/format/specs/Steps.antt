@@ -1,17 +1,18 @@
 -- What the inner steps of a scan say of each other. No rule of 01 stands here, and neither `next` nor `scan` cites it.
-use Prim.Native.Nat.{ℕ, _≤_, _<_}
+use Prim.Native.Nat.{ℕ, _+_, _≤_, _<_}
 use mathlib.Core.Path.{_≡_}
 use mathlib.Core.Bool.{Bool, true, false}
 use mathlib.Core.Option.{Option, none, some}
 use mathlib.Core.List.{List, [], _∷_, _++_}
 use lib.ListN.{length, take, drop}
 use lib.Dec.{ltb, eqb}
-use Rattle.parts.specs.Parts.{Bytes}
+use Rattle.parts.specs.Parts.{Bytes, bytes}
 use Rattle.format.specs.Grammar.{counterAfter}
-use Rattle.format.specs.Pieces.{Piece, shown, consed, piecesFrom}
+use Rattle.format.specs.Pieces.{Piece}
 use Rattle.format.specs.Params.{asked, meetOf, prepared, padded}
-use Rattle.format.specs.declared.hints.Hint.{Hint}
 use Rattle.format.specs.declared.fragments.Param.{Param}
+use Rattle.format.specs.declared.fragments.Fragment.{Fragment}
+use Rattle.format.specs.declared.fragments.Fragment.the-variants.{Literal, Parameter, End, Bad}
 use Rattle.format.specs.declared.params.Met.{Met}
 use Rattle.format.specs.declared.params.Met.the-variants as met
 use Rattle.format.specs.declared.records.Told.{Told}
@@ -19,6 +20,17 @@ use Rattle.format.specs.declared.records.Told.the-variants.{Count, Clash
 use Rattle.format.specs.declared.records.Turn.{Turn}
 use Rattle.format.specs.declared.records.Turn.the-variants as turn
 use Rattle.format.specs.declared.sift.Sifted.{Sifted}
+use Rattle.format.specs.declared.sift.Stride.{Stride}
+use Rattle.format.specs.declared.sift.Stride.the-variants as stride
+
+-- ---- tables as the code has them, a space between each two names
+
+abbrev pub packedTypes : Bytes
+packedTypes =
+    bytes "bool u8 u16 u32 u64 u128 usize i8 i16 i32 i64 i128 isize f32 f64 str istr char ? [u8] [?] __internal_Debug __internal_Display __internal_FormatSequence"
+
+abbrev pub packedHints : Bytes
+packedHints = bytes "a ? us ms ts tms tus"
 
 -- ---- records, sorted and merged where they lie
 
@@ -66,34 +78,32 @@ front items Clash = none
 
 -- ---- a scan on its way
 
--- within its bounds: the parameters that are written so far, and blanks
-pub record Fine (t : Sifted) : Type 0 where
-  pub filled : t .items ≡ padded (take (t .written) (t .items))
+-- within its bounds
+pub record Few (t : Sifted) : Type 0 where
   pub counted : t .counter ≤ t .written
   pub few : t .written ≤ 32
+
+-- the first n of an array are written, and the others blanks
+pub record Filled (items : List Param) (n : ℕ) : Type 0 where
+  pub filled : items ≡ padded (take n items)
+  pub few : n ≤ 32
+
+-- a parameter more, where 32 are not written yet
+unfoldable pub tookOf : Sifted → Param → Bool → ℕ → Stride
+tookOf t p counted next =
+    elim (ltb (t .written) 32) [
+      | true ↦ stride.Asks p (record { written = t .written + 1; counter = counterAfter counted (t .counter); at = next })
+      | false ↦ stride.Bad
+    ]
+
+-- what a fragment does to a scan
+abbrev pub strideOf : Sifted → Fragment → Stride
+strideOf t (Literal from to n) = stride.Past (record { written = t .written; counter = t .counter; at = n })
+strideOf t (Parameter p h counted n) = tookOf t p counted n
+strideOf t End = stride.Bad
+strideOf t (Bad n) = stride.Bad
 
 -- some parameters are written, and these pieces are to come
 abbrev pub judged : List Param → Option (List Piece) → Option (List Param)
 judged written none = none
 judged written (some ps) = prepared (written ++ asked ps)
-
-abbrev pub goes-on : Bool → Sifted → Option (List Piece) → Option (List Param)
-goes-on true t w = none
-goes-on false t w = judged (take (t .written) (t .items)) w
-
-pub record Failed (r : Sifted) : Type 0 where
-  pub bad : r .bad ≡ true
-  pub fine : Fine r
-
--- the parameter p was taken, and r is the scan after it
-pub record Took (t : Sifted) (p : Param) (counted : Bool) (next : ℕ) (r : Sifted) : Type 0 where
-  pub fine : Fine r
-  pub place : r .bad ≡ false → r .at ≡ next
-  pub counter : r .bad ≡ false → r .counter ≡ counterAfter counted (t .counter)
-  pub is : (h : Hint) (w : Option (List Piece)) → goes-on false t (consed (shown p h) w) ≡ goes-on (r .bad) r w
-
--- the fragment at t's place was taken, and r is the scan after it
-pub record Stepped (s : Bytes) (t r : Sifted) : Type 0 where
-  pub fine : Fine r
-  pub later : r .bad ≡ false → t .at < r .at
-  pub is : goes-on false t (piecesFrom s (t .at) (t .counter)) ≡ goes-on (r .bad) r (piecesFrom s (r .at) (r .counter))

@@ -1,11 +1,16 @@
 // A parameter's hint: how its value is to be shown.
 use parts::Named;
 use parts::Number;
+use parts::Start;
+use parts::at_name;
 use parts::byte_at;
 use parts::first_name;
+use parts::first_name_from;
 use parts::number_at;
 ghost use mathlib.Core.Path.{_≡_};
-ghost use Rattle.format.specs.Grammar.{hintNo, baseNo, padAt, shapedAt, hintAt, hintedAt};
+ghost use Rattle.parts.specs.Parts.{Passes};
+ghost use Rattle.format.specs.Steps.{packedHints};
+ghost use Rattle.format.specs.Grammar.{names, hints, hintNo, baseNo, padAt, shapedAt, hintAt, hintedAt};
 
 // b, o, x and X.
 pub enum Base {
@@ -106,13 +111,29 @@ fn shaped_at(text: &[u8], alternate: bool, at: usize) -> Hinted
     Hinted::Shown(Hint::Padded(pad), next)
 }
 
+// From where on the table of `hint_at` is searched for a name that begins with a byte.
+fn hint_start(b: u8) -> Start
+    ensures { λ r. ⌜ Passes (names hints) packedHints b r ⌝ }
+{
+    match b {
+        b'0' => at_name(20, 7),
+        b'#' => at_name(20, 7),
+        b'x' => at_name(20, 7),
+        b'X' => at_name(20, 7),
+        b'u' => at_name(4, 2),
+        b't' => at_name(10, 4),
+        _ => at_name(0, 0),
+    }
+}
+
 fn hint_at(text: &[u8], at: usize) -> Hinted
     ensures { λ r. ⌜ r ≡ hintAt (now (text .entry)) at ⌝ }
 {
-    if let Named::Name(k, end) = first_name(text, at, b"a ? us ms ts tms tus") {
+    let b = byte_at(text, at);
+    if let Named::Name(k, end) = first_name_from(text, at, b"a ? us ms ts tms tus", hint_start(b)) {
         return Hinted::Shown(hint_of(k), end);
     }
-    if byte_at(text, at) == b'#' {
+    if b == b'#' {
         return shaped_at(text, true, at + 1);
     }
     shaped_at(text, false, at)

@@ -21,6 +21,7 @@ use params::blanks;
 use params::refused;
 use parts::byte_at;
 use sift::Sifted;
+use sift::Stride;
 use sift::finished;
 use sift::step;
 pub use types::Kind;
@@ -70,19 +71,22 @@ pub fn next(text: &[u8], at: usize, counter: usize) -> Fragment
 pub fn scan(text: &[u8]) -> Scanned
     ensures { λ r. ⌜ r ≡ scannedOf (scanOf (now (text .entry))) ⌝ }
 {
+    let mut items = blanks();
     let mut t = Sifted {
-        items: blanks(),
         written: 0,
         counter: 0,
         at: 0,
-        bad: false,
     };
     while t.at < text.len() {
-        let u = step(text, t);
-        if u.bad {
-            return refused();
+        match step(text, t) {
+            Stride::Past(u) => t = u,
+            Stride::Asks(p, u) => {
+                let n = t.written;
+                items[n] = p;
+                t = u;
+            }
+            Stride::Bad => return refused(),
         }
-        t = u;
     }
-    finished(t)
+    finished(items, t.written)
 }

@@ -3,25 +3,29 @@ use crate::fragments::Fragment;
 use crate::fragments::Param;
 use crate::next;
 use crate::params::Scanned;
-use crate::params::blanks;
 use crate::params::in_order;
 use crate::params::refused;
 use crate::records::Told;
 use crate::records::prepare;
 ghost use mathlib.Core.Path.{_≡_};
-ghost use Prim.Native.Nat.{_≤_, _<_};
-ghost use lib.ListN.{length, take};
-ghost use Rattle.format.specs.Grammar.{counterAfter};
+ghost use Prim.Native.Nat.{_≤_};
+ghost use lib.ListN.{take};
+ghost use Rattle.format.specs.Grammar.{counterAfter, nextAt};
 ghost use Rattle.format.specs.Params.{complete, prepared, scannedOf};
-ghost use Rattle.format.specs.Steps.{Fine, Failed, Took, Stepped, Fits, front};
+ghost use Rattle.format.specs.Steps.{Few, Filled, tookOf, strideOf, Fits, front};
 
-// A scan on its way: the parameters as they are written and how many they are, the counter and the place.
+// A scan on its way: how many parameters are written, the counter and the place.
 pub struct Sifted {
-    pub items: [Param; 32],
     pub written: usize,
     pub counter: usize,
     pub at: usize,
-    pub bad: bool,
+}
+
+// What a fragment does to a scan: literal bytes are passed, and a parameter is asked for; or the text is FORMAT.
+pub enum Stride {
+    Past(Sifted),
+    Asks(Param, Sifted),
+    Bad,
 }
 
 fn counter_after(counted: bool, c: usize) -> usize
@@ -31,74 +35,48 @@ fn counter_after(counted: bool, c: usize) -> usize
     if counted { c + 1 } else { c }
 }
 
-fn failed() -> Sifted
-    ensures { λ r. ⌜ Failed r ⌝ }
-{
-    Sifted {
-        items: blanks(),
-        written: 0,
-        counter: 0,
-        at: 0,
-        bad: true,
-    }
-}
-
-// The scan with a parameter more.
-fn took(t: Sifted, p: Param, counted: bool, next: usize) -> Sifted
-    requires { ⌜ Fine t ⌝ }
-    ensures { λ r. ⌜ Took t p counted next r ⌝ }
+// The scan with a parameter more, of which 32 may be written.
+fn took(t: Sifted, p: Param, counted: bool, next: usize) -> Stride
+    requires { ⌜ Few t ⌝ }
+    ensures { λ r. ⌜ r ≡ tookOf t p counted next ⌝ }
 {
     if t.written >= 32 {
-        return failed();
+        return Stride::Bad;
     }
-    let mut items = t.items;
-    let n = t.written;
-    items[n] = p;
-    Sifted {
-        items: items,
-        written: n + 1,
-        counter: counter_after(counted, t.counter),
-        at: next,
-        bad: false,
-    }
+    Stride::Asks(
+        p,
+        Sifted {
+            written: t.written + 1,
+            counter: counter_after(counted, t.counter),
+            at: next,
+        },
+    )
 }
 
-// Inner: the scan with the fragment at its place taken.
-pub fn step(text: &[u8], t: Sifted) -> Sifted
-    requires { ⌜ Fine t × (t .at < length (now text)) ⌝ }
-    ensures { λ r. ⌜ Stepped (now (text .entry)) t r ⌝ }
+// Inner: what the fragment at its place does to a scan.
+pub fn step(text: &[u8], t: Sifted) -> Stride
+    requires { ⌜ Few t ⌝ }
+    ensures { λ r. ⌜ r ≡ strideOf t (nextAt (now (text .entry)) (t .at) (t .counter)) ⌝ }
 {
     match next(text, t.at, t.counter) {
         Fragment::Literal {
             from: _,
             to: _,
             next: n,
-        } => {
-            let items = t.items;
-            Sifted {
-                items: items,
-                written: t.written,
-                counter: t.counter,
-                at: n,
-                bad: false,
-            }
-        }
+        } => Stride::Past(Sifted {
+            written: t.written,
+            counter: t.counter,
+            at: n,
+        }),
         Fragment::Parameter {
             param: p,
             hint: _,
             counted: c,
             next: n,
         } => took(t, p, c, n),
-        Fragment::End => failed(),
-        Fragment::Bad(_) => failed(),
+        Fragment::End => Stride::Bad,
+        Fragment::Bad(_) => Stride::Bad,
     }
-}
-
-fn items_of(t: Sifted) -> [Param; 32]
-    ensures { λ r. ⌜ r ≡ t .items ⌝ }
-{
-    let items = t.items;
-    items
 }
 
 // What was told of the records: no position may be missing.
@@ -120,12 +98,11 @@ fn answered(items: [Param; 32], told: Told) -> Scanned
 }
 
 // Inner: the end of a scan: its records are prepared where they lie.
-pub fn finished(t: Sifted) -> Scanned
-    requires { ⌜ Fine t ⌝ }
-    ensures { λ r. ⌜ r ≡ scannedOf (prepared (take (t .written) (t .items))) ⌝ }
+pub fn finished(written: [Param; 32], n: usize) -> Scanned
+    requires { ⌜ Filled written n ⌝ }
+    ensures { λ r. ⌜ r ≡ scannedOf (prepared (take n written)) ⌝ }
 {
-    let mut items = items_of(t);
-    let n = t.written;
+    let mut items = written;
     let told = prepare(&mut items[..n]);
     answered(items, told)
 }

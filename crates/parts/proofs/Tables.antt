@@ -1,15 +1,16 @@
 -- Packed tables of names. Assumes nothing.
-use Prim.Native.Nat.{ℕ, suc, _+_, _-_, _<_, _≤_}
-use mathlib.Core.Path.{_≡_, sym, ap, _∙_}
-use mathlib.Core.Bool.{Bool, true, false}
+use Prim.Native.Nat.{ℕ, zero, suc, _+_, _-_, _<_, _≤_}
+use mathlib.Core.Path.{_≡_, refl, sym, ap, _∙_}
+use mathlib.Core.Bool.{Bool, true, false, false≢true}
 use mathlib.Core.List.{List, [], _∷_}
 use native.Mathlib.Omega.{arith}
-use lib.ListN.{length, take, drop, length-drop, drop-of-length-le}
-use lib.Seq.{drop-drop}
+use lib.ListN.{length, getD, take, drop, length-drop, drop-of-length-le}
+use lib.Seq.{drop-drop, getD-drop}
 use lib.Dec.{eqb}
-use Rattle.parts.specs.Parts.{Bytes, part, span, nextByte, begins, firstName, grow, words}
+use Rattle.parts.specs.Parts.{Bytes, byte, part, span, nextByte, begins, firstName, grow, words, allOther, Passes}
 use Rattle.parts.specs.declared.Named.{Named}
 use Rattle.parts.specs.declared.Named.the-variants.{Name, NoName}
+use Rattle.parts.specs.declared.Start.{Start}
 use Rattle.parts.proofs.Places.{by-test, span-passed, part-length, nextByte-within}
 use Rattle.parts.proofs.Names.{begins-fits}
 
@@ -111,3 +112,37 @@ module _ (s names : Bytes) (at from k : ℕ) (r : Named) (so : firstName (words 
     -- the place behind a name is within any bound of the place and of the text
     pub found-fits : b ≡ true → (most : ℕ) → at ≤ most → length s ≤ most → at + (e - from) ≤ most
     found-fits h most p q = let z = begins-fits (part names from e) (drop at s) (there ∙ h) in omega (arith, sized, length-drop at s)
+
+-- ---- a search that passes over names which begin otherwise
+
+module _ (s : Bytes) (at b : ℕ) (here : byte s at ≡ b) where
+  other-begins : (c : ℕ) (n : Bytes) → eqb b c ≡ false → begins (c ∷ n) (drop at s) ≡ false
+  unfolding byte begins
+  other-begins c n e = go (drop at s) (getD-drop at s 0 0 ∙ ap (λ (i : ℕ). getD s i 0) (let z : at + 0 ≡ at = omega arith in z) ∙ here)
+    where
+      go : (l : Bytes) → getD l 0 0 ≡ b → begins (c ∷ n) l ≡ false
+      go [] h = refl
+      go (x ∷ xs) h = rw (ap (λ (z : ℕ). eqb z c) h ∙ e, begins)
+
+  skips : (m : ℕ) (ns : List Bytes) (k : ℕ) → allOther b (take m ns) ≡ true → firstName (drop m ns) s at (k + m) ≡ firstName ns s at k
+  unfolding allOther firstName
+  skips zero ns k h = ap (λ (j : ℕ). firstName ns s at j) (let z : k + 0 ≡ k = omega arith in z)
+  skips (suc m) [] k h = refl
+  skips (suc m) ([] ∷ ns) k h = absurd (false≢true h)
+  skips (suc m) ((c ∷ n) ∷ ns) k h =
+      by-test (eqb b c)
+      (λ t. absurd (false≢true (sym (rw (t, allOther)) ∙ h)))
+      (λ t.
+      ap (λ (j : ℕ). firstName (drop m ns) s at j) (let z : k + suc m ≡ k + 1 + m = omega arith in z)
+      ∙ skips m ns (k + 1) (sym (rw (t, allOther)) ∙ h)
+      ∙ sym (firstName-later (c ∷ n) ns s at k (other-begins c n t)))
+
+  pub search-passes : (names : List Bytes) (packed : Bytes) (r : Start) → Passes names packed b r → firstName (words (drop (r .place) packed)) s at (r .number) ≡ firstName names s at 0
+  search-passes names packed r p = ap (λ (ws : List Bytes). firstName ws s at (r .number)) (p .rest)
+      ∙ ap (λ (j : ℕ). firstName (drop (r .number) names) s at j) (let z : r .number ≡ 0 + r .number = omega arith in z)
+      ∙ skips (r .number) names 0 (p .others)
+
+-- a search from the first name on
+pub from-the-first : {r : Start} → r ≡ record { place = 0; number = 0 }
+    → (r .number ≤ r .place) × ((names s : Bytes) (at : ℕ) → firstName (words (drop (r .place) names)) s at (r .number) ≡ firstName (words names) s at 0)
+from-the-first e = (let p = ap (λ (z : Start). z .place) e in let n = ap (λ (z : Start). z .number) e in omega arith, λ names s at. ap (λ (z : Start). firstName (words (drop (z .place) names)) s at (z .number)) e)

@@ -1,8 +1,9 @@
 -- Parts of a slice, as 01's "Book" speaks of them: bytes at places, names compared byte for byte, numbers with no leading zero.
 -- Definitions only.
-use Prim.Native.Nat.{ℕ, suc, _+_, _-_, _*_}
+use Prim.Native.Nat.{ℕ, suc, _+_, _-_, _*_, _≤_}
 use Prim.Native.String.{String, [] as end, _∷_ as _then-char_}
 use Prim.Native.Char.{code}
+use mathlib.Core.Path.{_≡_}
 use mathlib.Core.Bool.{Bool, true, false}
 use mathlib.Core.List.{List, [], _∷_}
 use lib.ListN.{length, getD, take, drop}
@@ -11,6 +12,7 @@ use Rattle.parts.specs.declared.Number.{Number}
 use Rattle.parts.specs.declared.Number.the-variants.{Num, NoNum}
 use Rattle.parts.specs.declared.Named.{Named}
 use Rattle.parts.specs.declared.Named.the-variants.{Name, NoName}
+use Rattle.parts.specs.declared.Start.{Start}
 
 -- ---- bytes
 
@@ -67,6 +69,18 @@ grow x (w ∷ ws) = (x ∷ w) ∷ ws
 unfoldable pub words : Bytes → List Bytes
 words [] = []
 words (x ∷ xs) = elim (eqb x 32) [ true ↦ [] ∷ words xs | false ↦ grow x (words xs) ]
+
+-- the names of a table that begin with another byte than b, all of them
+unfoldable pub allOther : ℕ → List Bytes → Bool
+allOther b [] = true
+allOther b ([] ∷ ns) = false
+allOther b ((c ∷ n) ∷ ns) = elim (eqb b c) [ true ↦ false | false ↦ allOther b ns ]
+
+-- a start that passes over names, of which none begins with b, and has the others before it
+pub record Passes (names : List Bytes) (packed : Bytes) (b : ℕ) (r : Start) : Type 0 where
+  pub others : allOther b (take (r .number) names) ≡ true
+  pub rest : words (drop (r .place) packed) ≡ drop (r .number) names
+  pub few : r .number ≤ r .place
 
 -- ---- numbers: decimal, with no leading zero, up to a limit
 

@@ -17,6 +17,18 @@ pub enum Named {
     NoName,
 }
 
+// From where on a packed table is searched: the place of a name in it, and the name's number.
+pub struct Start {
+    pub place: usize,
+    pub number: usize,
+}
+
+pub fn at_name(place: usize, number: usize) -> Start
+    ensures { λ r. ⌜ r ≡ record { place = place; number = number } ⌝ }
+{
+    Start { place, number }
+}
+
 // The byte at a place, and 0 past the end.
 pub fn byte_at(s: &[u8], at: usize) -> u8
     ensures { λ r. ⌜ r ≡ byte (now (s .entry)) at ⌝ }
@@ -77,8 +89,16 @@ pub fn begins_at(s: &[u8], at: usize, name: &[u8]) -> bool
 pub fn first_name(s: &[u8], at: usize, names: &[u8]) -> Named
     ensures { λ r. ⌜ r ≡ firstName (words (now (names .entry))) (now (s .entry)) at 0 ⌝ }
 {
-    let mut from = 0;
-    let mut k = 0;
+    first_name_from(s, at, names, at_name(0, 0))
+}
+
+// Inner: the first name from a start on that stands at a place.
+pub fn first_name_from(s: &[u8], at: usize, names: &[u8], start: Start) -> Named
+    requires { ⌜ start .number ≤ start .place ⌝ }
+    ensures { λ r. ⌜ r ≡ firstName (words (drop (start .place) (now (names .entry)))) (now (s .entry)) at (start .number) ⌝ }
+{
+    let mut from = start.place;
+    let mut k = start.number;
     while from < names.len() {
         let e = next_byte(names, from, b' ');
         if begins_at(s, at, &names[from..e]) {

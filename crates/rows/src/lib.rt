@@ -4,7 +4,7 @@
 // words name, a part of the message or of the book.
 mod decoding;
 mod frames;
-mod kinds;
+pub mod kinds;
 mod placing;
 mod reading;
 mod strings;
@@ -20,6 +20,7 @@ use answer::Refusal;
 use answer::Verdict;
 pub use frames::Decoded;
 use frames::frame;
+pub use placing::WIDTH;
 pub use strings::Shown;
 pub use strings::shown_at;
 pub use strings::string;

@@ -1,20 +1,21 @@
--- 01, "Rows and decoding", read back: rows of four words, and the rows below a row behind it. Nothing is asked of the words: a row past
+-- 01, "Rows and decoding", read back: rows of words, and the rows below a row behind it. Nothing is asked of the words: a row past
 -- the end has the words 0. Definitions only.
 use Prim.Native.Nat.{ℕ, zero, suc, _+_, _*_, _/_, min}
 use mathlib.Core.Bool.{true, false}
 use mathlib.Core.List.{List}
 use lib.ListN.{length, getD}
 use lib.Dec.{ltb, eqb}
+use Rattle.rows.specs.Rows.{width}
 use Rattle.rows.specs.Kinds.{FORMAT, SLICE, ELEMENT, SEQUENCE}
 use Rattle.text.specs.declared.walk.Class.{Class}
 use Rattle.text.specs.declared.walk.Class.the-variants as class
 
 -- how many whole rows there are
 abbrev pub countOf : List ℕ → ℕ
-countOf rows = length rows / 4
+countOf rows = length rows / width
 
 unfoldable pub wordOf : List ℕ → ℕ → ℕ → ℕ
-wordOf rows row k = elim (ltb row (countOf rows)) [ true ↦ getD rows (row * 4 + k) 0 | false ↦ 0 ]
+wordOf rows row k = elim (ltb row (countOf rows)) [ true ↦ getD rows (row * width + k) 0 | false ↦ 0 ]
 
 -- the row behind a row and all that is below it
 unfoldable pub nextOf : List ℕ → ℕ → ℕ

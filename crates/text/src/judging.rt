@@ -6,8 +6,6 @@ use crate::places::some_byte;
 use crate::places::stored;
 use crate::places::variant;
 use crate::walk::Class;
-use crate::walk::FORMAT;
-use crate::walk::UNSIGNED;
 use crate::walk::child;
 use crate::walk::class_of;
 use crate::walk::next;
@@ -18,6 +16,8 @@ use format::Fragment;
 use format::Hint;
 use format::Kind;
 use format::Param;
+use rows::WIDTH;
+use rows::kinds;
 ghost use mathlib.Core.Path.{_≡_};
 ghost use mathlib.Core.Bool.{true, false, _&&_, _||_};
 ghost use Prim.Native.Nat.{_+_, _*_, _≤_, _<_};
@@ -183,7 +183,7 @@ fn with_row(
     requires { ⌜ Ready (now book) (now message) (now rows) (now marks) row ⌝ }
     ensures { λ r. ⌜ Adds j (textOf (now (book .entry)) (now (message .entry)) (now (rows .entry)) row seen own) r ⌝ }
 {
-    if row >= rows.len() / 4 {
+    if row >= rows.len() / WIDTH {
         return j;
     }
     let m = unpack(marks[row * 2 + side_of(seen)]);
@@ -319,13 +319,13 @@ fn judge_each(
 pub fn bad_byte(rows: &[u64], row: usize) -> bool
     ensures { λ r. ⌜ r ≡ unprintable (byteOf (now (rows .entry)) row) ⌝ }
 {
-    if row >= rows.len() / 4 {
+    if row >= rows.len() / WIDTH {
         return true;
     }
     if word(rows, row, 3) != 1 {
         return true;
     }
-    if word(rows, row + 1, 0) != UNSIGNED {
+    if word(rows, row + 1, 0) != kinds::UNSIGNED {
         return true;
     }
     if word(rows, row + 1, 2) != 0 {
@@ -392,7 +392,7 @@ fn judge_list(
 fn is_same(p: Place, n: usize, kind: u64) -> bool
     ensures { λ r. ⌜ SameSides p n kind r ⌝ }
 {
-    if kind != FORMAT {
+    if kind != kinds::FORMAT {
         return true;
     }
     if p.start != 0 {
@@ -492,7 +492,7 @@ pub fn mark(book: &[u8], message: &[u8], rows: &[u64], marks: &mut [u8]) -> bool
     ensures { λ r. ⌜ Ready (now (book .entry)) (now (message .entry)) (now (rows .entry)) (now (marks .exit)) 0 × Fine (now (book .entry)) (now (message .entry)) (now (rows .entry)) 0 r ⌝ }
 {
     let mut fine = true;
-    let mut row = rows.len() / 4;
+    let mut row = rows.len() / WIDTH;
     while 0 < row {
         row -= 1;
         let s = judge_row(book, message, rows, marks, row);

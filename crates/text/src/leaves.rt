@@ -12,6 +12,7 @@ use format::Kind;
 use put::put_bytes;
 use put::strings::put_list;
 use put::strings::put_quoted;
+use rows::kinds;
 ghost use mathlib.Core.Path.{_≡_};
 ghost use mathlib.Core.List.{[]};
 ghost use Rattle.answer.specs.declared.Verdict.the-variants.{Ok};
@@ -41,16 +42,16 @@ fn value_of(kind: u64) -> Value
     ensures { λ r. ⌜ r ≡ valueOf kind ⌝ }
 {
     match kind {
-        1 => Value::Truth,
-        2 => Value::Unsigned,
-        3 => Value::Signed,
-        4 => Value::Float,
-        5 => Value::Float,
-        6 => Value::Str,
-        7 => Value::Istr,
-        12 => Value::Bytes,
-        13 => Value::Scalar,
-        14 => Value::Str,
+        kinds::BOOL => Value::Truth,
+        kinds::UNSIGNED => Value::Unsigned,
+        kinds::SIGNED => Value::Signed,
+        kinds::SINGLE => Value::Float,
+        kinds::DOUBLE => Value::Float,
+        kinds::STR => Value::Str,
+        kinds::ISTR => Value::Istr,
+        kinds::BYTES => Value::Bytes,
+        kinds::CHAR => Value::Scalar,
+        kinds::PREFORMATTED => Value::Str,
         _ => Value::Nothing,
     }
 }

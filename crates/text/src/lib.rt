@@ -71,7 +71,7 @@ pub fn text_checked(
     match rows::decode_checked(book, message, rows) {
         Decoded::Refused(r) => answer::refuse(out, r),
         Decoded::Done(stamp, all, _) => {
-            let end = all * 4;
+            let end = all * rows::WIDTH;
             let r = asked(book, message, which, &rows[..end], stamp, out);
             settle(rows, r)
         }

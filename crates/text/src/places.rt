@@ -1,7 +1,6 @@
 // Where the text that a row shows stands in the book.
 use crate::hints::Sort;
 use crate::hints::sort_of;
-use crate::walk::FORMAT;
 use crate::walk::is_item;
 use crate::walk::next;
 use crate::walk::word;
@@ -9,6 +8,7 @@ use book::Found;
 use book::Place;
 use format::Hint;
 use format::Kind;
+use rows::kinds;
 ghost use mathlib.Core.Path.{_≡_};
 ghost use mathlib.Core.Bool.{false, _&&_};
 ghost use lib.Dec.{eqb};
@@ -79,7 +79,7 @@ pub fn shown_text(book: &[u8], rows: &[u64], row: usize, seen: Kind) -> Place
 pub fn is_whole(seen: Kind, kind: u64) -> bool
     ensures { λ r. ⌜ r ≡ (isItem seen && eqb kind 8) ⌝ }
 {
-    if is_item(seen) { kind == FORMAT } else { false }
+    if is_item(seen) { kind == kinds::FORMAT } else { false }
 }
 
 // Is the text of an element that of a byte?

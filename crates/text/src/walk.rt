@@ -1,21 +1,13 @@
-// Rows of four words, read back: a row's words, its class, and the rows that stand side by side. No word is trusted.
+// Rows, read back: a row's words, its class, and the rows that stand side by side. No word is trusted.
 use format::Kind;
+use rows::WIDTH;
+use rows::kinds;
 ghost use mathlib.Core.Path.{_≡_};
 ghost use Prim.Native.Nat.{_≤_, _<_};
+ghost use Rattle.rows.specs.Rows.{width};
 ghost use Rattle.text.specs.Walk.{countOf, wordOf, nextOf, childOf, classOf};
 ghost use Rattle.text.specs.Text.{isItem};
 ghost use Rattle.text.specs.Marks.{sideOf};
-
-// The numbers of kinds.
-pub const UNSIGNED: u64 = 2;
-
-pub const FORMAT: u64 = 8;
-
-const SLICE: u64 = 9;
-
-const ELEMENT: u64 = 10;
-
-const SEQUENCE: u64 = 11;
 
 // What a row's kind says of the rows below it.
 pub enum Class {
@@ -27,20 +19,20 @@ pub enum Class {
 
 // Inner: word k of a row, and 0 past the end.
 pub fn word(rows: &[u64], row: usize, k: usize) -> u64
-    requires { ⌜ k < 4 ⌝ }
+    requires { ⌜ k < width ⌝ }
     ensures { λ r. ⌜ r ≡ wordOf (now (rows .entry)) row k ⌝ }
 {
-    if row >= rows.len() / 4 {
+    if row >= rows.len() / WIDTH {
         return 0;
     }
-    rows[row * 4 + k]
+    rows[row * WIDTH + k]
 }
 
 // The row behind a row and all that is below it.
 pub fn next(rows: &[u64], row: usize) -> usize
     ensures { λ r. ⌜ r ≡ nextOf (now (rows .entry)) row ⌝ }
 {
-    let count = rows.len() / 4;
+    let count = rows.len() / WIDTH;
     if row >= count {
         return count;
     }
@@ -68,16 +60,16 @@ pub fn child(rows: &[u64], p: usize, first: usize) -> usize
 pub fn class_of(kind: u64) -> Class
     ensures { λ r. ⌜ r ≡ classOf kind ⌝ }
 {
-    if kind == FORMAT {
+    if kind == kinds::FORMAT {
         return Class::Format;
     }
-    if kind == ELEMENT {
+    if kind == kinds::ELEMENT {
         return Class::Format;
     }
-    if kind == SLICE {
+    if kind == kinds::SLICE {
         return Class::List;
     }
-    if kind == SEQUENCE {
+    if kind == kinds::SEQUENCE {
         return Class::Sequence;
     }
     Class::Leaf

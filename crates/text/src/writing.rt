@@ -18,6 +18,7 @@ use format::Kind;
 use put::put_byte;
 use put::put_bytes;
 use put::strings::put_escaped;
+use rows::WIDTH;
 ghost use mathlib.Core.Bool.{not};
 ghost use Prim.Native.Nat.{_≤_, _<_};
 ghost use lib.ListN.{length};
@@ -52,7 +53,7 @@ fn put_between(out: &mut [u8], at: usize, commas: bool, n: u64) -> usize
 fn put_element(rows: &[u64], out: &mut [u8], at: usize, row: usize) -> usize
     ensures { λ r. ⌜ Prints (byteOf (now (rows .entry)) row) (now (out .entry)) at (now (out .exit)) r ⌝ }
 {
-    if row >= rows.len() / 4 {
+    if row >= rows.len() / WIDTH {
         return at;
     }
     let b = word(rows, row + 1, 1);
@@ -97,7 +98,7 @@ fn value(
     requires { ⌜ Ready (now book) (now message) (now rows) (now marks) 0 ⌝ }
     ensures { λ r. ⌜ Prints (textOf (now (book .entry)) (now (message .entry)) (now (rows .entry)) row seen own parent) (now (out .entry)) at (now (out .exit)) r ⌝ }
 {
-    if row >= rows.len() / 4 {
+    if row >= rows.len() / WIDTH {
         return at;
     }
     if is_blank(marks, row, seen) {

@@ -1,4 +1,3 @@
-use mathlib.Core.Path.{refl}
 use native.Mathlib.Omega.{arith}
 use borrow.Author.Needs.{needs}
 use Rattle.format.proofs.StepLaws.{took-full, took-one}
@@ -9,10 +8,7 @@ pub took-spec : {M : Type 1} → statement M
 took-spec =
     tie.close
     (tie.spec
-    (λ c κs. search needs)
-    (λ c. took-full (c .before .before .before .args .t) _ _ _ (c .before .before .before .pre) (c .before .if1 .taken) _ (c .failed .ensures))
-    (λ c. search needs)
-    (λ c. search needs)
+    (λ c. took-full (c .before .before .args .t) _ _ _ (c .if1 .taken))
     (λ c. search needs)
     (λ c κs. omega (arith, c .before .before .before .pre .counted, c .before .before .before .pre .few))
-    (λ c. took-one (c .before .before .before .before .args .t) _ _ _ (c .before .before .before .before .pre) (c .before .before .if1 .left) _ refl _ (c .counter-after .ensures)))
+    (λ c. took-one (c .before .before .before .before .args .t) _ _ _ (c .before .before .if1 .left) _ (c .counter-after .ensures)))
