@@ -1,20 +1,21 @@
 -- The second pass of `decode`: how the output grows from its end, by a byte and by a run.
 use mathlib.Core.Path.{_≡_, refl, sym, ap, ap₂, _∙_}
-use Prim.Native.Nat.{ℕ, zero, suc, _+_, _-_, _≤_, _<_}
-use native.Mathlib.Nat.{not-suc-le-zero, le-of-suc-le-suc, sub-zero, suc-sub-suc}
+use Prim.Native.Nat.{ℕ, zero, suc, _+_, _-_, _*_, _/_, _%_, _^_, _≤_, _<_}
+use native.Mathlib.Nat.{not-suc-le-zero, le-of-suc-le-suc, sub-zero, mul-zero, mul-one}
+use native.Mathlib.Decide.{ℕ-discrete}
 use native.Mathlib.Numerals.{sub-one}
 use native.Mathlib.Omega.{arith}
 use mathlib.Core.Bool.{Bool, true, false}
 use mathlib.Core.Option.{Option, none, some, Option·map}
-use mathlib.Core.List.{List, [], _∷_, _++_, reverse, reverse-cons, reverse-append, reverse-reverse, append-assoc}
+use mathlib.Core.List.{[], _∷_, _++_, reverse, reverse-cons, reverse-append, reverse-reverse, append-assoc}
 use lib.ListN.{length, take, drop, getD, set, length-append, length-reverse, length-drop}
-use lib.Seq.{paste, take-suc, length-take-le, drop-at, getD-drop}
+use lib.Seq.{take-suc, length-take-le, getD-drop}
 use Rattle.answer.specs.Answer.{Bytes}
 use Rattle.blocks.specs.Blocks.{bit, push, dec}
 use Rattle.blocks.specs.Promises.{given}
-use Rattle.blocks.specs.Steps.{unread, measured, whole, Below}
-use Rattle.blocks.specs.declared.decoding.Measured.the-variants.{Length, Bad}
-use Rattle.blocks.proofs.Reading.{bit-none, dec-zero, dec-data, dec-short, at-zero, at-data, at-short, run-suc}
+use Rattle.blocks.specs.Steps.{unread, measured, whole, copied, Below}
+use Rattle.blocks.specs.declared.decoding.Measured.the-variants.{Length}
+use Rattle.blocks.proofs.Reading.{bit-none, bit-set, bit-clear, dec-zero, dec-data, dec-short, at-zero, at-data, at-short, run-suc}
 
 pub below-goal : {d : Option Bytes} {j : ℕ} {out goal : Bytes} → Below d j out goal → whole d j out ≡ goal
 below-goal {d} {j} {out} h = ap (λ (o : Option Bytes). whole o j out) (h .is) ∙ h .same
@@ -108,12 +109,37 @@ given-reverse (some r) = refl
 
 -- ---- a turn of the seven
 
-module _ (c : Bytes) (i k m j : ℕ) (out goal : Bytes) (p : 0 < k) (room : j ≤ length out) (h : Below (dec (unread c i) k m) j out goal) where
-  pub below-zero : bit (k - 1) m ≡ true → Below (dec (unread c i) (k - 1) m) (j - 1) (set out (j - 1) 0) goal
+-- how many bytes of the coding bit k of a mask takes
+abbrev pub dataBit : ℕ → ℕ → ℕ
+dataBit k m = 1 - m / 2 ^ k % 2
+
+pub data-bit : {X : Type 0} (k m d : ℕ) → d ≡ dataBit k m → (d ≡ 0 → bit k m ≡ true → X) → (d ≡ 1 → bit k m ≡ false → X) → X
+data-bit k m d e a b =
+    elim (ℕ-discrete (m / 2 ^ k % 2) 1) [
+      | yes s ↦ a (omega (arith, e, s)) (bit-set k m s)
+      | no s ↦ b (let h : m / 2 ^ k % 2 ≡ 0 = omega (arith, s) in omega (arith, e, h)) (bit-clear k m s)
+    ]
+
+pub data-bound : (b d k m : ℕ) → d ≡ dataBit k m → b < 256 → b * d < 256
+data-bound b d k m e h = data-bit k m d e (λ z s. rw z (omega arith)) (λ z s. rw z (omega arith))
+
+module _ (c : Bytes) (i k m j : ℕ) (out goal : Bytes) (p : 0 < k) (room : j ≤ length out) (h : Below (dec (unread c i) k m) j out goal) (d : ℕ) (is : d ≡ dataBit (k - 1) m) where
+  below-zero : bit (k - 1) m ≡ true → Below (dec (unread c i) (k - 1) m) (j - 1) (set out (j - 1) 0) goal
   below-zero e = below-put 0 _ j out goal (below-as h (at-zero (unread c i) k m p e)) room
 
-  pub below-byte : i ≤ length c → bit (k - 1) m ≡ false → Below (dec (unread c (i - 1)) (k - 1) m) (j - 1) (set out (j - 1) (getD c (i - 1) 0)) goal
+  below-byte : i ≤ length c → bit (k - 1) m ≡ false → Below (dec (unread c (i - 1)) (k - 1) m) (j - 1) (set out (j - 1) (getD c (i - 1) 0)) goal
   below-byte l e = below-put _ _ j out goal (below-as h (at-data c i k m p (below-data c i k m p e h) l e)) room
+
+  -- data are taken where there are some
+  pub turn-data : d ≤ i
+  turn-data = data-bit (k - 1) m d is (λ z s. omega arith) (λ z s. omega (arith, below-data c i k m p s h))
+
+  -- a zero is the byte there times 0
+  pub below-turn : i ≤ length c → Below (dec (unread c (i - d)) (k - 1) m) (j - 1) (set out (j - 1) (getD c (i - d) 0 * d)) goal
+  below-turn l =
+      data-bit (k - 1) m d is
+      (λ z s. rw (z, sub-zero, mul-zero) (below-zero s))
+      (λ z s. rw (z, mul-one) (below-byte l s))
 
 -- ---- a run
 
@@ -152,18 +178,15 @@ ran c (suc i) (suc k) r h e =
 pub record Copied (c : Bytes) (i k j : ℕ) (out goal : Bytes) : Type 0 where
   pub here : k ≤ i
   pub room : k ≤ j
-  pub below : Below (dec (unread c (i - k)) 0 0) (j - k) (paste out (j - k) (drop (i - k) c) k) goal
+  pub below : (new : Bytes) → drop (j - k) new ≡ copied c (i - k) k out (j - k) → Below (dec (unread c (i - k)) 0 0) (j - k) new goal
 
 module _ (c : Bytes) (i k j : ℕ) (out goal : Bytes) (l : i ≤ length c) (m : j ≤ length out) (h : Below (dec (unread c i) k 0) j out goal) where
-  pasted : (at to : ℕ) (rest : Bytes) → at + k ≡ i → length rest + k ≡ j → to ≡ length rest → h .rest ≡ reverse (take k (drop at c)) ++ rest
-      → reverse rest ++ drop to (paste out to (drop at c) k) ≡ goal
-  pasted at to rest a b e f =
+  pasted : (at to : ℕ) (rest new : Bytes) → at + k ≡ i → length rest + k ≡ j → to ≡ length rest → h .rest ≡ reverse (take k (drop at c)) ++ rest
+      → drop to new ≡ copied c at k out to → reverse rest ++ drop to new ≡ goal
+  pasted at to rest new a b e f g =
       let part : Bytes = take k (drop at c) in
       let s : to + k ≡ j = omega arith in
-      ap (λ (q : Bytes). reverse rest ++ q)
-      (ap (drop to) (append-assoc (take to out) part (drop (to + k) out))
-      ∙ drop-at (take to out) (part ++ drop (to + k) out) to (length-take-le to out (omega arith))
-      ∙ ap (λ (n : ℕ). part ++ drop n out) s)
+      ap (λ (q : Bytes). reverse rest ++ q) (g ∙ ap (λ (n : ℕ). part ++ drop n out) s)
       ∙ sym (append-assoc (reverse rest) part (drop j out))
       ∙ ap (λ (q : Bytes). q ++ drop j out)
       (sym (ap reverse f ∙ reverse-append (reverse part) rest ∙ ap (λ (q : Bytes). reverse rest ++ q) (reverse-reverse part)))
@@ -182,5 +205,7 @@ module _ (c : Bytes) (i k j : ℕ) (out goal : Bytes) (l : i ≤ length c) (m : 
       record {
         here = omega arith;
         room = omega arith;
-        below = rw at (record { rest = t .rest; is = t .is; size = sym to; same = pasted (t .at) (j - k) (t .rest) a b to (t .front) });
+        below =
+            λ new g. rw at
+            (record { rest = t .rest; is = t .is; size = sym to; same = pasted (t .at) (j - k) (t .rest) new a b to (t .front) (rw at at g) });
       }

@@ -1,115 +1,433 @@
--- The encoder's loops: what a turn does to the count and to the output.
-use mathlib.Core.Path.{_≡_, refl, sym, ap, _∙_}
-use Prim.Native.Nat.{ℕ, zero, suc, _+_, _-_, _≤_, _<_}
+-- The encoder's output: what a block, a run and the loop over them write.
+use mathlib.Core.Path.{_≡_, refl, sym, ap, ap₂, _∙_}
+use Prim.Native.Nat.{ℕ, suc, _+_, _-_, _*_, _^_, _≤_, _<_}
+use native.Mathlib.Nat.{add-zero}
 use native.Mathlib.Numerals.{add-one}
+use native.Mathlib.Decide.{ℕ-discrete}
 use native.Mathlib.Omega.{arith}
+use mathlib.Core.Bool.{Bool, true, false, not}
+use mathlib.Core.Logic.{inl, inr}
 use mathlib.Core.List.{List, [], _∷_, _++_, append-assoc, append-nil}
-use lib.ListN.{length, take, drop, getD, length-append, drop-of-length-le}
-use lib.Seq.{drop-cons, length-take-le, sets, sets-eq, length-sets, take-at, drop-at, drop-drop}
-use Rattle.answer.specs.Answer.{Bytes}
-use Rattle.blocks.specs.Blocks.{enc, encode, closing}
-use Rattle.blocks.specs.Steps.{firstOf, Turns, Closes}
-use Rattle.blocks.proofs.Runs.{enc-turn}
+use lib.ListN.{length, take, drop, getD, set, length-append, length-set, length-drop, drop-of-length-le, take-append-drop}
+use lib.Pow.{pow-mono}
+use lib.Seq.{drop-cons, take-suc, take-add, set-set, length-take-le, getD-drop, sets, sets-eq, length-sets, take-at, drop-at, drop-drop}
+use lib.Dec.{ltb}
+use borrow.Author.Tests.{ltb-true, ltb-false, not-true, not-false}
+use Rattle.answer.specs.Answer.{Bytes, limit, zeros}
+use Rattle.answer.specs.declared.Outcome.{Outcome}
+use Rattle.answer.specs.declared.Outcome.the-variants.{Done, Refused}
+use Rattle.answer.specs.declared.Refusal.the-variants.{Room}
+use Rattle.blocks.specs.Blocks.{enc, encode, hasZero}
+use Rattle.blocks.specs.Promises.{Encodes}
+use Rattle.blocks.specs.Steps.{keep, marks, part, Lesser, Packs, Carries, Maskable, Coded, Codes, Writes}
+use Rattle.blocks.specs.declared.encoding.Placed.{Placed}
+use Rattle.blocks.specs.declared.encoding.Placed.the-variants.{At, Short}
+use Rattle.blocks.proofs.Answers.{fitted-done, fitted-room, encode-fitted, encode-refused}
+use Rattle.blocks.proofs.Runs.{pow-more}
+use Rattle.blocks.proofs.ThereAndBack.{zero-free-none, zero-free-one, zero-free-append}
+use Rattle.blocks.proofs.Blockwise.{keep-none, keep-one, keep-append, keep-few, marks-append, marks-below, one-or-other, enc-end, seven-on, mask-closed, run-some, run-full, run-end, run-zero, run-more}
 
-turn-codes : (s : Bytes) (i : ℕ) {k m k′ m′ n a b : ℕ} → i < length s → Turns k m (getD s i 0) k′ m′ n a b
-    → enc (drop i s) k m ≡ firstOf n a b ++ enc (drop (i + 1) s) k′ m′
-turn-codes s i {k} {m} {k′} {m′} {n} {a} {b} h t =
-    ap (λ (l : Bytes). enc l k m) (drop-cons s i 0 h)
-    ∙ enc-turn k m (getD s i 0) (drop (suc i) s) (t .is)
-    ∙ ap (λ (j : ℕ). firstOf n a b ++ enc (drop j s) k′ m′) (sym (add-one i))
+-- ---- stores that follow each other
 
-close-codes : (s : Bytes) (i : ℕ) {k m n a b : ℕ} → length s ≤ i → Closes k m n a b → enc (drop i s) k m ≡ firstOf n a b
-unfolding enc
-close-codes s i {k} {m} h t = ap (λ (l : Bytes). enc l k m) (drop-of-length-le s h) ∙ t .is
+sets-append : (us vs l : Bytes) (i : ℕ) → sets l i (us ++ vs) ≡ sets (sets l i us) (i + length us) vs
+sets-append [] vs l i = ap (λ (j : ℕ). sets l j vs) (sym (add-zero i))
+sets-append (u ∷ us) vs l i = sets-append us vs (set l i u) (suc i) ∙ ap (λ (j : ℕ). sets (sets (set l i u) (suc i) us) j vs) (omega arith)
 
-two : (n a b : ℕ) → n ≤ 2 → length (firstOf n a b) ≡ n
-two n a b h = length-take-le n (a ∷ b ∷ []) h
+-- ---- a part of the message
 
--- ---- the count: w is the whole coding's
+module _ (s : Bytes) (i : ℕ) where
+  pub part-length : (c : ℕ) → i + c ≤ length s → length (part s i c) ≡ c
+  part-length c h = length-take-le c (drop i s) (simp length-drop (omega arith))
 
-pub turn-count : (s : Bytes) (i o w : ℕ) {k m k′ m′ n a b : ℕ} → i < length s → Turns k m (getD s i 0) k′ m′ n a b
-    → w ≡ o + length (enc (drop i s) k m) → w ≡ o + n + length (enc (drop (i + 1) s) k′ m′)
-turn-count s i o w {k} {m} {k′} {m′} {n} {a} {b} h t e =
-    let q = ap length (turn-codes s i h t) ∙ length-append (firstOf n a b) (enc (drop (i + 1) s) k′ m′) in
-    let z = two n a b (t .few) in
-    omega arith
+  pub part-more : (k : ℕ) → i + k < length s → part s i (k + 1) ≡ part s i k ++ getD s (i + k) 0 ∷ []
+  part-more k h =
+      ap (λ (n : ℕ). part s i n) (add-one k)
+      ∙ take-suc (drop i s) k 0 (simp length-drop (omega arith))
+      ∙ ap (λ (x : ℕ). part s i k ++ x ∷ []) (getD-drop i s k 0)
 
-pub close-count : (s : Bytes) (i o w : ℕ) {k m n a b : ℕ} → length s ≤ i → Closes k m n a b → w ≡ o + length (enc (drop i s) k m) → w ≡ o + n
-close-count s i o w {k} {m} {n} {a} {b} h t e =
-    let q = ap length (close-codes s i h t) in
-    let f = t .few in
-    let z = two n a b (omega arith) in
-    omega arith
+  pub part-rest : (c : ℕ) → part s i c ++ drop (i + c) s ≡ drop i s
+  part-rest c = ap (λ (t : Bytes). part s i c ++ t) (sym (drop-drop c i s)) ∙ take-append-drop c (drop i s)
 
--- ---- the output: o bytes of the coding are written, and behind them it is as it was
+  part-split : (k d : ℕ) → part s i (k + d) ≡ part s i k ++ take d (drop k (drop i s))
+  part-split k d = take-add k d (drop i s)
 
-pub record Written (s out old : Bytes) (i o k m : ℕ) : Type 0 where
-  pub len : length out ≡ length old
-  pub in-room : o ≤ length out
-  pub same : take o out ++ enc (drop i s) k m ≡ encode s
-  pub tail : drop o out ≡ drop o old
+  -- the data of fewer bytes are not more
+  pub keep-part : (k c : ℕ) → k ≤ c → length (keep (part s i k)) ≤ length (keep (part s i c))
+  keep-part k c h =
+      let rest : Bytes = take (c - k) (drop k (drop i s)) in
+      let e : c ≡ k + (c - k) = omega arith in
+      let q : keep (part s i c) ≡ keep (part s i k) ++ keep rest =
+      ap (λ (n : ℕ). keep (part s i n)) e ∙ ap keep (part-split k (c - k)) ∙ keep-append (part s i k) rest in
+      omega (arith, ap length q ∙ length-append (keep (part s i k)) (keep rest))
 
-pub written-none : (s out : Bytes) → Written s out out 0 0 0 0
-unfolding encode
-written-none s out = record { len = refl; in-room = omega arith; same = refl; tail = refl }
+pub pow-seven : (k : ℕ) → k ≤ 7 → 2 ^ k ≤ 128
+pow-seven k h = pow-mono {i = k} {j = 7} h
 
-module _ (s out old : Bytes) (i o k m : ℕ) (p : Written s out old i o k m) (fits : length (encode s) ≤ length old) where
-  room : (e r : Bytes) → enc (drop i s) k m ≡ e ++ r → o + length e ≤ length out
-  room e r q =
-      let a = ap length (p .same) in
-      let b = length-append (take o out) (enc (drop i s) k m) in
-      let c = length-take-le o out (p .in-room) in
-      let d = ap length q ∙ length-append e r in
-      let l = p .len in
-      omega arith
+-- ---- the data of a block: k bytes are read, and what place p holds is to be written over
 
-  stored : (e r : Bytes) → enc (drop i s) k m ≡ e ++ r → sets out o e ≡ take o out ++ e ++ drop (o + length e) out
-  stored e r q = sets-eq e out o (room e r q)
+module _ (new old : Bytes) (o p : ℕ) (d : Bytes) (at : p ≡ o + length d) (over : (b : ℕ) → set new p b ≡ sets old o (d ++ b ∷ [])) where
+  over-one : (x b : ℕ) → set (set new p x) (p + 1) b ≡ sets old o ((d ++ x ∷ []) ++ b ∷ [])
+  over-one x b =
+      let e : p + 1 ≡ o + length (d ++ x ∷ []) = omega (arith, length-append d (x ∷ [])) in
+      ap₂ (λ (t : Bytes) (n : ℕ). set t n b) (over x) e ∙ sym (sets-append (d ++ x ∷ []) (b ∷ []) old o)
 
-  head : (e : Bytes) → length (take o out ++ e) ≡ o + length e
-  head e = length-append (take o out) e ∙ ap (λ (n : ℕ). n + length e) (length-take-le o out (p .in-room))
+  over-keep : (x b : ℕ) → set (set new p x) (p + length (keep (x ∷ []))) b ≡ sets old o ((d ++ keep (x ∷ [])) ++ b ∷ [])
+  over-keep x b =
+      elim (ℕ-discrete x 0) [
+        | yes e ↦ rw (keep-none x e, add-zero p, append-nil d) (set-set new p x b ∙ over b)
+        | no e ↦ rw (keep-one x e) (over-one x b)
+      ]
 
-  kept : (n : ℕ) → drop (o + n) out ≡ drop (o + n) old
-  kept n = sym (drop-drop n o out) ∙ ap (drop n) (p .tail) ∙ drop-drop n o old
+pub record Packing (s : Bytes) (i c o : ℕ) (old new : Bytes) (k w mask p : ℕ) : Type 0 where
+  pub few : k ≤ c
+  pub bit : w ≡ 2 ^ k
+  pub zeros : mask ≡ marks (part s i k) 1
+  pub place : p ≡ o + length (keep (part s i k))
+  pub len : length new ≡ length old
+  pub over : (b : ℕ) → set new p b ≡ sets old o (keep (part s i k) ++ b ∷ [])
 
-  more : (e : Bytes) (i′ k′ m′ : ℕ) → enc (drop i s) k m ≡ e ++ enc (drop i′ s) k′ m′ → Written s (sets out o e) old i′ (o + length e) k′ m′
-  more e i′ k′ m′ q =
-      let r : Bytes = enc (drop i′ s) k′ m′ in
-      let w = stored e r q in
+module _ (s : Bytes) (i c o : ℕ) (old : Bytes) where
+  pub packing-none : Packing s i c o old old 0 1 0 o
+  unfolding keep marks
+  packing-none = record { few = omega arith; bit = refl; zeros = refl; place = omega arith; len = refl; over = λ b. refl }
+
+  module _ (new : Bytes) (k w mask p : ℕ) (within : i + c ≤ length s) (seven : c ≤ 7) (h : Packing s i c o old new k w mask p) where
+    pub packing-below : mask < 128
+    packing-below =
+        let e : 2 ^ length (part s i k) ≡ 2 ^ k = ap (λ (n : ℕ). 2 ^ n) (part-length s i k (omega (arith, h .few))) in
+        omega (arith, h .zeros, marks-below (part s i k) 1, e, pow-seven k (omega (arith, h .few)))
+
+    pub packing-room : o + length (keep (part s i c)) < length old → p < length new
+    packing-room r = omega (arith, h .place, h .len, keep-part s i k c (h .few))
+
+    pub packing-more : k < c →
+        let x = getD s (i + k) 0 in
+        Packing s i c o old (set new p x) (k + 1) (w * 2) (mask + marks (x ∷ []) w) (p + length (keep (x ∷ [])))
+    packing-more l =
+        let x : ℕ = getD s (i + k) 0 in
+        let d : Bytes = keep (part s i k) in
+        let t = part-more s i k (omega arith) in
+        let q : keep (part s i (k + 1)) ≡ d ++ keep (x ∷ []) = ap keep t ∙ keep-append (part s i k) (x ∷ []) in
+        let n : 1 * 2 ^ length (part s i k) ≡ w = omega (arith, h .bit, ap (λ (j : ℕ). 2 ^ j) (part-length s i k (omega arith))) in
+        let m = ap (λ (u : Bytes). marks u 1) t ∙ marks-append (part s i k) (x ∷ []) 1 in
+        record {
+          few = omega arith;
+          bit = omega (arith, h .bit, pow-more k);
+          zeros = omega (arith, h .zeros, m, ap (marks (x ∷ [])) n);
+          place = omega (arith, h .place, ap length q, length-append d (keep (x ∷ [])));
+          len = length-set new p x ∙ h .len;
+          over = λ b. rw q (over-keep new old o p d (h .place) (h .over) x b);
+        }
+
+    pub packed : k ≡ c → Packs (part s i c) o old p (mask + (128 - w)) new
+    packed e =
+        let q : w ≡ 2 ^ length (part s i c) = h .bit ∙ ap (λ (n : ℕ). 2 ^ n) (e ∙ sym (part-length s i c within)) in
+        record {
+          place = h .place ∙ ap (λ (n : ℕ). o + length (keep (part s i n))) e;
+          zeros = ap₂ (λ (a b : ℕ). a + (128 - b)) (h .zeros ∙ ap (λ (n : ℕ). marks (part s i n) 1) e) q;
+          over = λ b. h .over b ∙ ap (λ (n : ℕ). sets old o (keep (part s i n) ++ b ∷ [])) e;
+        }
+
+pub count-more : (s : Bytes) (i k : ℕ) → i + k < length s
+    → length (keep (part s i (k + 1))) ≡ length (keep (part s i k)) + length (keep (getD s (i + k) 0 ∷ []))
+count-more s i k h =
+    let x : ℕ = getD s (i + k) 0 in
+    ap (λ (t : Bytes). length (keep t)) (part-more s i k h)
+    ∙ ap length (keep-append (part s i k) (x ∷ []))
+    ∙ length-append (keep (part s i k)) (keep (x ∷ []))
+
+pub count-none : (s : Bytes) (i : ℕ) → 0 ≡ length (keep (part s i 0))
+unfolding keep
+count-none s i = refl
+
+pub count-few : (s : Bytes) (i c : ℕ) → i + c ≤ length s → length (keep (part s i c)) ≤ c
+count-few s i c h = omega (arith, keep-few (part s i c), part-length s i c h)
+
+-- room for n bytes and one more, as it was looked for behind place o of an output of l
+module _ (n o l : ℕ) (r : Bool) (e : r ≡ ltb n (l - o)) (h : o ≤ l) where
+  pub room-found : not r ≡ false → o + n < l
+  room-found t = omega (arith, ltb-true n (l - o) (sym e ∙ not-false r t))
+
+  pub room-missed : not r ≡ true → l ≤ o + n
+  room-missed t = omega (arith, ltb-false n (l - o) (sym e ∙ not-true r t))
+
+-- ---- a block that its mask closes
+
+module _ (s : Bytes) (i c o : ℕ) (old : Bytes) (t : Maskable s i c) where
+  closed : enc (drop i s) 0 0 ≡ keep (part s i c) ++ (marks (part s i c) 1 + (128 - 2 ^ length (part s i c))) ∷ enc (drop (i + c) s) 0 0
+  closed =
+      let l : Bytes = part s i c in
+      let n : length l ≡ c = part-length s i c (t .within) in
+      ap (λ (u : Bytes). enc u 0 0) (sym (part-rest s i c))
+      ∙ mask-closed l (drop (i + c) s) (omega (arith, t .some)) (omega (arith, t .few))
+      (λ h. drop-of-length-le s {i = i + c} (omega (arith, t .last (omega arith)))) (t .holed)
+
+  pub block-short : (new : Bytes) → length old ≤ o + length (keep (part s i c)) → Codes 0 s i o old Short new
+  unfolding Codes
+  block-short new h = omega (arith, ap length closed ∙ length-append (keep (part s i c)) (_ ∷ enc (drop (i + c) s) 0 0))
+
+  module _ (p mask : ℕ) (new : Bytes) (k : Packs (part s i c) o old p mask new) (r : o + length (keep (part s i c)) < length old) where
+    pub block-room : length new ≡ length old → p < length new
+    block-room l = omega (arith, k .place)
+
+    pub block-closed : Codes 0 s i o old (At (i + c) (p + 1)) (set new p mask)
+    unfolding Codes
+    block-closed =
+        record {
+          on = omega (arith, t .some);
+          within = t .within;
+          bytes = keep (part s i c);
+          control = mask;
+          is = closed ∙ ap (λ (a : ℕ). keep (part s i c) ++ a ∷ enc (drop (i + c) s) 0 0) (sym (k .zeros));
+          place = omega (arith, k .place);
+          room = omega (arith, k .place);
+          written = k .over mask;
+        }
+
+-- ---- a block that begins with seven bytes of data
+
+pub holes-more : (s : Bytes) (i k n : ℕ) → i + k < length s → n + length (keep (part s i k)) ≡ k
+    → n + marks (getD s (i + k) 0 ∷ []) 1 + length (keep (part s i (k + 1))) ≡ k + 1
+holes-more s i k n h e = omega (arith, count-more s i k h, one-or-other (getD s (i + k) 0))
+
+-- which of the two the seven bytes begin
+module _ (s : Bytes) (i n : ℕ) where
+  pub seven-full : n + length (keep (part s i 7)) ≡ 7 → n ≡ 0 → length (keep (part s i 7)) ≡ 7
+  seven-full e z = omega arith
+
+  pub seven-maskable : i + 7 ≤ length s → n + length (keep (part s i 7)) ≡ 7 → (n ≡ 0 → ⊥) → Maskable s i 7
+  seven-maskable h e z =
+      record { some = omega arith; few = omega arith; within = h; last = λ l. absurd (let w : ⊥ = omega arith in w); holed = omega (arith, z) }
+
+pub last-maskable : (s : Bytes) (i : ℕ) → i < length s → length s - i < 7 → Maskable s i (length s - i)
+last-maskable s i h l =
+    record {
+      some = omega arith;
+      few = omega arith;
+      within = omega arith;
+      last = λ m. omega arith;
+      holed = omega (arith, count-few s i (length s - i) (omega arith));
+    }
+
+module _ (s : Bytes) (i o : ℕ) (old : Bytes) (h : i + 7 ≤ length s) (f : length (keep (part s i 7)) ≡ 7) where
+  on : enc (drop i s) 0 0 ≡ part s i 7 ++ enc (drop (i + 7) s) 7 0
+  on =
+      ap (λ (u : Bytes). enc u 0 0) (sym (part-rest s i 7)) ∙ seven-on (part s i 7) (drop (i + 7) s) (part-length s i 7 h) f
+
+  size : length (enc (drop i s) 0 0) ≡ 7 + length (enc (drop (i + 7) s) 7 0)
+  size = omega (arith, ap length on ∙ length-append (part s i 7) (enc (drop (i + 7) s) 7 0), part-length s i 7 h)
+
+  pub long-short : (new : Bytes) → o ≤ length old → length old - o < 8 → Codes 0 s i o old Short new
+  unfolding Codes
+  long-short new l r = omega (arith, size, run-some (drop (i + 7) s) 7 (omega arith) (omega arith))
+
+  pub long-on : (new : Bytes) → new ≡ sets old o (part s i 7) → (r : Placed) (new′ : Bytes) → Codes 7 s (i + 7) (o + 7) new r new′ → Codes 0 s i o old r new′
+  unfolding Codes
+  long-on new e (At i′ o′) new′ g =
+      let d : Bytes = part s i 7 in
+      let n : length d ≡ 7 = part-length s i 7 h in
+      let b : Bytes = g .bytes ++ g .control ∷ [] in
       record {
-        len = length-sets out o e ∙ p .len;
-        in-room = let l = length-sets out o e in let h = room e r q in omega arith;
-        same =
-            ap (λ (t : Bytes). take (o + length e) t ++ r) w
-            ∙ ap (λ (t : Bytes). t ++ r) (take-at (take o out ++ e) (drop (o + length e) out) (o + length e) (head e))
-            ∙ append-assoc (take o out) e r
-            ∙ ap (λ (t : Bytes). take o out ++ t) (sym q)
-            ∙ p .same;
-        tail = ap (drop (o + length e)) w ∙ drop-at (take o out ++ e) (drop (o + length e) out) (o + length e) (head e) ∙ kept (length e);
+        on = omega (arith, g .on);
+        within = g .within;
+        bytes = d ++ g .bytes;
+        control = g .control;
+        is = on ∙ ap (λ (u : Bytes). d ++ u) (g .is) ∙ sym (append-assoc d (g .bytes) (g .control ∷ enc (drop i′ s) 0 0));
+        place = omega (arith, g .place, length-append d (g .bytes));
+        room = omega (arith, g .room, ap length e ∙ length-sets old o d);
+        written =
+            g .written
+            ∙ ap₂ (λ (u : Bytes) (j : ℕ). sets u (o + j) b) e (sym n)
+            ∙ sym (sets-append d b old o)
+            ∙ ap (sets old o) (sym (append-assoc d (g .bytes) (g .control ∷ [])));
+      }
+  long-on new e Short new′ g = omega (arith, size, ap length e ∙ length-sets old o (part s i 7))
+
+-- what an answer says, once it is told apart
+pub coded-at : {k : ℕ} {s : Bytes} {i o : ℕ} {old new : Bytes} {r : Placed} {i′ o′ : ℕ} → r ≡ At i′ o′ → Codes k s i o old r new
+    → Coded k s i o old i′ o′ new
+unfolding Codes
+coded-at e c = rw e at c
+
+-- ---- a run
+
+-- a byte more is copied
+pub copy-more : (s : Bytes) (i o n : ℕ) (old new : Bytes) → i + n < length s → new ≡ sets old o (part s i n)
+    → set new (o + n) (getD s (i + n) 0) ≡ sets old o (part s i (n + 1))
+copy-more s i o n old new h e =
+    let x : ℕ = getD s (i + n) 0 in
+    ap (λ (u : Bytes). set u (o + n) x) e
+    ∙ ap (λ (j : ℕ). set (sets old o (part s i n)) (o + j) x) (sym (part-length s i n (omega arith)))
+    ∙ sym (ap (sets old o) (part-more s i n h) ∙ sets-append (part s i n) (x ∷ []) old o)
+
+pub record Carrying (s : Bytes) (i most o : ℕ) (old new : Bytes) (n : ℕ) : Type 0 where
+  pub few : n ≤ most
+  pub free : hasZero (part s i n) ≡ false
+  pub len : length new ≡ length old
+  pub copied : new ≡ sets old o (part s i n)
+
+module _ (s : Bytes) (i most o : ℕ) (old : Bytes) where
+  pub carrying-none : Carrying s i most o old old 0
+  carrying-none = record { few = omega arith; free = zero-free-none; len = refl; copied = refl }
+
+  pub carrying-more : (new : Bytes) (n : ℕ) → n < most → i + most ≤ length s → (getD s (i + n) 0 ≡ 0 → ⊥) → Carrying s i most o old new n
+      → Carrying s i most o old (set new (o + n) (getD s (i + n) 0)) (n + 1)
+  carrying-more new n l h e k =
+      let x : ℕ = getD s (i + n) 0 in
+      let t = part-more s i n (omega arith) in
+      record {
+        few = omega arith;
+        free = ap hasZero t ∙ zero-free-append (part s i n) (x ∷ []) (k .free) (zero-free-one x e);
+        len = length-set new (o + n) x ∙ k .len;
+        copied = copy-more s i o n old new (omega arith) (k .copied);
       }
 
-  whole : (e : Bytes) → enc (drop i s) k m ≡ e → sets out o e ≡ encode s ++ drop (length (encode s)) old
-  whole e q =
-      let g : take o out ++ e ≡ encode s = ap (λ (t : Bytes). take o out ++ t) (sym q) ∙ p .same in
-      let n : o + length e ≡ length (encode s) = sym (head e) ∙ ap length g in
-      stored e [] (q ∙ sym (append-nil e))
-      ∙ ap (λ (t : Bytes). t ++ drop (o + length e) out) g
-      ∙ ap (λ (t : Bytes). encode s ++ t) (kept (length e) ∙ ap (λ (j : ℕ). drop j old) n)
+module _ (s : Bytes) (i o : ℕ) (old : Bytes) (most lim n : ℕ) (new : Bytes) (h : i ≤ length s) (r : o < length old)
+    (a : Lesser (length s - i) 127 most) (b : Lesser most (length old - o - 1) lim) (k : Carries s i lim o old n new) where
+  pub few-enough : (n ≤ most) × (i + n ≤ length s) × (o + n < length old) × (n ≤ 127)
+  few-enough =
+      let f = k .few in
+      let g = b .first in
+      let u = b .second in
+      let v = a .first in
+      let w = a .second in
+      (omega arith, omega arith, omega arith, omega arith)
 
-  module _ {k′ m′ n a b : ℕ} (h : i < length s) (t : Turns k m (getD s i 0) k′ m′ n a b) where
-    pub turn-room : o + n ≤ length out
-    turn-room = let z = two n a b (t .few) in let r = room (firstOf n a b) _ (turn-codes s i h t) in omega arith
+  count : length (part s i n) ≡ n
+  count = part-length s i n (few-enough .1)
 
-    pub turn-written : Written s (sets out o (firstOf n a b)) old (i + 1) (o + n) k′ m′
-    turn-written = rw (two n a b (t .few)) at (more (firstOf n a b) (i + 1) k′ m′ (turn-codes s i h t))
+  stored : set new (o + n) (128 + n) ≡ sets old o (part s i n ++ (128 + n) ∷ [])
+  stored =
+      ap₂ (λ (u : Bytes) (j : ℕ). set u (o + j) (128 + n)) (k .copied) (sym count) ∙ sym (sets-append (part s i n) ((128 + n) ∷ []) old o)
 
-  module _ {n a b : ℕ} (h : length s ≤ i) (t : Closes k m n a b) where
-    pub close-room : o + n ≤ length out
-    close-room =
-        let f = t .few in
-        let z = two n a b (omega arith) in
-        let r = room (firstOf n a b) [] (close-codes s i h t ∙ sym (append-nil _)) in
-        omega arith
+  run-at : (i′ : ℕ) → i ≤ i′ → i′ ≤ length s → enc (drop i s) 7 0 ≡ part s i n ++ (128 + length (part s i n)) ∷ enc (drop i′ s) 0 0
+      → Coded 7 s i o old i′ (o + n + 1) (set new (o + n) (128 + n))
+  run-at i′ l m e =
+      record {
+        on = omega arith;
+        within = m;
+        bytes = part s i n;
+        control = 128 + n;
+        is = e ∙ ap (λ (j : ℕ). part s i n ++ (128 + j) ∷ enc (drop i′ s) 0 0) count;
+        place = omega (arith, count);
+        room = omega (arith, few-enough .2);
+        written = stored;
+      }
 
-    pub close-written : sets out o (firstOf n a b) ≡ encode s ++ drop (length (encode s)) old
-    close-written = whole (firstOf n a b) (close-codes s i h t)
+  from : (e : Bytes) → enc (part s i n ++ drop (i + n) s) 7 0 ≡ e → enc (drop i s) 7 0 ≡ e
+  from e q = ap (λ (u : Bytes). enc u 7 0) (sym (part-rest s i n)) ∙ q
+
+  -- up to the message's end, or to 134 bytes
+  pub run-stops : most ≤ n → Codes 7 s i o old (At (i + n) (o + n + 1)) (set new (o + n) (128 + n))
+  unfolding Codes
+  run-stops l =
+      run-at (i + n) (omega arith) (few-enough .1)
+      (from _ (elim (ℕ-discrete n 127) [
+        | yes e ↦ run-full (part s i n) (drop (i + n) s) (k .free) (count ∙ e)
+        | no e ↦
+            let u = few-enough in
+            let q : i + n ≡ length s = elim (a .either) [ inl v ↦ omega (arith, u .0, u .1) | inr v ↦ omega (arith, e, u .0, u .3) ] in
+            run-end (part s i n) (drop (i + n) s) (k .free) (omega (arith, e, u .3, count)) (drop-of-length-le s {i = i + n} (omega arith))
+      ]))
+
+  module _ (l : n < most) where
+    inside : (i + n < length s) × (n < 127)
+    inside = let v = a .first in let w = a .second in (omega arith, omega arith)
+
+    next : drop (i + n) s ≡ getD s (i + n) 0 ∷ drop (i + n + 1) s
+    next = drop-cons s (i + n) 0 (inside .0) ∙ ap (λ (j : ℕ). getD s (i + n) 0 ∷ drop j s) (sym (add-one (i + n)))
+
+    pub run-closes : getD s (i + n) 0 ≡ 0 → Codes 7 s i o old (At (i + n + 1) (o + n + 1)) (set new (o + n) (128 + n))
+    unfolding Codes
+    run-closes z =
+        run-at (i + n + 1) (omega arith) (omega (arith, inside .0))
+        (from _ (ap (λ (u : Bytes). enc (part s i n ++ u) 7 0) next ∙ run-zero (part s i n) _ (drop (i + n + 1) s) (k .free) (omega (arith, count, inside .1)) z))
+
+    pub run-short : (new′ : Bytes) → (getD s (i + n) 0 ≡ 0 → ⊥) → Codes 7 s i o old Short new′
+    unfolding Codes
+    run-short new′ z =
+        let m = run-more (part s i n) _ (drop (i + n + 1) s) (k .free) (omega (arith, count, inside .1)) z in
+        let f = ap length (from _ (ap (λ (u : Bytes). enc (part s i n ++ u) 7 0) next)) in
+        elim (ℕ-discrete n lim) [
+          | yes e ↦ elim (b .either) [ inl v ↦ omega arith | inr v ↦ omega (arith, count) ]
+          | no e ↦ absurd (z (k .ends (omega (arith, e, k .few))))
+        ]
+
+-- ---- the loop: o bytes of the coding are written, and behind them the output is as it was
+
+pub record Writing (s out old : Bytes) (i o : ℕ) : Type 0 where
+  pub within : i ≤ length s
+  pub len : length out ≡ length old
+  pub in-room : o ≤ length out
+  pub same : take o out ++ enc (drop i s) 0 0 ≡ encode s
+  pub tail : drop o out ≡ drop o old
+
+pub writing-none : (s out : Bytes) → Writing s out out 0 0
+unfolding encode
+writing-none s out = record { within = omega arith; len = refl; in-room = omega arith; same = refl; tail = refl }
+
+module _ (s out old : Bytes) (i o : ℕ) (p : Writing s out old i o) where
+  total : length (encode s) ≡ o + length (enc (drop i s) 0 0)
+  total =
+      let a = ap length (p .same) in
+      let b = length-append (take o out) (enc (drop i s) 0 0) in
+      let c = length-take-le o out (p .in-room) in
+      omega arith
+
+  pub writing-short : (r : Placed) (new : Bytes) → r ≡ Short → Codes 0 s i o out r new → Writes s old Short new
+  unfolding Codes Writes
+  writing-short r new e c = let h : length out < o + length (enc (drop i s) 0 0) = rw e at c in omega (arith, total, p .len)
+
+  pub writing-all : length s ≤ i → Writes s old (At i o) out
+  unfolding Writes
+  writing-all h =
+      let e = enc-end (drop i s) (drop-of-length-le s h) in
+      let f : take o out ≡ encode s = sym (ap (λ (t : Bytes). take o out ++ t) e ∙ append-nil (take o out)) ∙ p .same in (
+        omega (arith, total, ap length e),
+        omega (arith, p .in-room, p .len),
+        sym (take-append-drop o out) ∙ ap₂ (λ (a b : Bytes). a ++ b) f (p .tail),
+      )
+
+  pub writing-more : (i′ o′ : ℕ) (new : Bytes) → Coded 0 s i o out i′ o′ new → Writing s new old i′ o′
+  writing-more i′ o′ new c =
+      let e : Bytes = c .bytes ++ c .control ∷ [] in
+      let r : Bytes = enc (drop i′ s) 0 0 in
+      let n : o + length e ≡ o′ = omega (arith, c .place, length-append (c .bytes) (c .control ∷ [])) in
+      let m : o + length e ≤ length out = omega (arith, c .room) in
+      let w : new ≡ (take o out ++ e) ++ drop o′ out =
+      c .written ∙ sets-eq e out o m ∙ ap (λ (j : ℕ). take o out ++ e ++ drop j out) n in
+      let q : length (take o out ++ e) ≡ o′ = omega (arith, length-append (take o out) e, length-take-le o out (p .in-room)) in
+      let l : length new ≡ length out = ap length (c .written) ∙ length-sets out o e in
+      record {
+        within = c .within;
+        len = l ∙ p .len;
+        in-room = omega (arith, c .room);
+        same =
+            ap (λ (t : Bytes). t ++ r) (ap (take o′) w ∙ take-at (take o out ++ e) (drop o′ out) o′ q)
+            ∙ append-assoc (take o out) e r
+            ∙ ap (λ (t : Bytes). take o out ++ t) (append-assoc (c .bytes) (c .control ∷ []) r ∙ sym (c .is))
+            ∙ p .same;
+        tail =
+            ap (drop o′) w
+            ∙ drop-at (take o out ++ e) (drop o′ out) o′ q
+            ∙ ap (λ (j : ℕ). drop j out) (sym n)
+            ∙ sym (drop-drop (length e) o out)
+            ∙ ap (drop (length e)) (p .tail)
+            ∙ drop-drop (length e) o old
+            ∙ ap (λ (j : ℕ). drop j old) n;
+      }
+
+-- ---- the call
+
+module _ (s old : Bytes) (small : length s ≤ limit) (r : Placed) (mid : Bytes) (w : Writes s old r mid) where
+  pub encode-done : {i n : ℕ} → r ≡ At i n → Encodes s old (Done n) mid
+  unfolding Writes
+  encode-done {i} {n} e =
+      let h : Writes s old (At i n) mid = rw e at w in
+      record { answer = sym (encode-fitted s (length old) small n (h .0) ∙ fitted-done (length old) n (h .1)); output = h .2 }
+
+  pub encode-room : r ≡ Short → length mid ≡ length old → {a : Outcome} {new : Bytes} → (a ≡ Refused Room) × (new ≡ zeros (length mid)) → Encodes s old a new
+  unfolding Writes
+  encode-room e l q =
+      let h : Writes s old Short mid = rw e at w in
+      encode-refused (q .0, q .1 ∙ ap zeros l) (encode-fitted s (length old) small (length (encode s)) refl ∙ fitted-room (length old) (length (encode s)) h)

@@ -12,6 +12,7 @@ use Rattle.blocks.specs.Blocks.{bit, push, dec}
 use Rattle.blocks.specs.Steps.{unread, runLength, measured}
 use Rattle.blocks.specs.declared.decoding.Measured.{Measured}
 use Rattle.blocks.specs.declared.decoding.Measured.the-variants.{Length, Bad}
+use Rattle.blocks.proofs.Below.{dataBit, data-bit}
 use Rattle.blocks.proofs.Reading.{bit-none, dec-data, dec-short, dec-run, dec-full, run-closed, run-full, length-unread, at-zero, at-data, at-short, at-done, run-suc}
 
 unfoldable pub sized : ℕ → Option Bytes → Measured
@@ -53,16 +54,24 @@ count-full x n ys h = ap (sized n) (dec-full x ys h) ∙ ap (λ (k : ℕ). sized
 
 -- what the loops do, where w is the measure of the whole coding
 module _ {w : Measured} (c : Bytes) (i n : ℕ) (l : i ≤ length c) where
-  pub count-zero : (k m : ℕ) → 0 < k → bit (k - 1) m ≡ true → w ≡ sized n (dec (unread c i) k m) → w ≡ sized (n + 1) (dec (unread c i) (k - 1) m)
+  count-zero : (k m : ℕ) → 0 < k → bit (k - 1) m ≡ true → w ≡ sized n (dec (unread c i) k m) → w ≡ sized (n + 1) (dec (unread c i) (k - 1) m)
   count-zero k m p e q = q ∙ ap (sized n) (at-zero (unread c i) k m p e) ∙ sized-push n 0 _
 
-  pub count-data : (k m : ℕ) → 0 < k → 0 < i → bit (k - 1) m ≡ false → w ≡ sized n (dec (unread c i) k m)
+  count-data : (k m : ℕ) → 0 < k → 0 < i → bit (k - 1) m ≡ false → w ≡ sized n (dec (unread c i) k m)
       → w ≡ sized (n + 1) (dec (unread c (i - 1)) (k - 1) m)
   count-data k m p h e q = q ∙ ap (sized n) (at-data c i k m p h l e) ∙ sized-push n _ _
 
-  pub count-short : (k m : ℕ) → 0 < k → i ≡ 0 → bit (k - 1) m ≡ false → w ≡ sized n (dec (unread c i) k m) → w ≡ Bad
+  count-short : (k m : ℕ) → 0 < k → i ≡ 0 → bit (k - 1) m ≡ false → w ≡ sized n (dec (unread c i) k m) → w ≡ Bad
   unfolding sized
   count-short k m p z e q = q ∙ ap (λ (j : ℕ). sized n (dec (unread c j) k m)) z ∙ ap (sized n) (at-short k m p e)
+
+  -- a bit of the seven, which takes d bytes of the coding
+  module _ (k m d : ℕ) (p : 0 < k) (is : d ≡ dataBit (k - 1) m) (q : w ≡ sized n (dec (unread c i) k m)) where
+    pub count-turn : d ≤ i → w ≡ sized (n + 1) (dec (unread c (i - d)) (k - 1) m)
+    count-turn h = data-bit (k - 1) m d is (λ z s. rw (z, sub-zero) (count-zero k m p s q)) (λ z s. rw z (count-data k m p (omega arith) s q))
+
+    pub count-lack : i < d → w ≡ Bad
+    count-lack h = data-bit (k - 1) m d is (λ z s. absurd (let v : ⊥ = omega arith in v)) (λ z s. count-short k m p (omega arith) s q)
 
   pub count-done : (k m : ℕ) → k ≡ 0 → w ≡ sized n (dec (unread c i) k m) → w ≡ sized n (dec (unread c i) 0 0)
   count-done k m z q = q ∙ ap (sized n) (at-done (unread c i) k m z)

@@ -3,21 +3,18 @@ use mathlib.Core.Path.{_≡_, refl, sym, ap, _∙_}
 use Prim.Native.Nat.{ℕ, zero, suc, _+_, _-_, _/_, _%_, _^_, _≤_, _<_}
 use native.Mathlib.Nat.{not-suc-le-zero, zero-div}
 use native.Mathlib.Numerals.{add-one, sub-one}
+use native.Mathlib.Decide.{decLe}
 use native.Mathlib.Omega.{arith}
 use mathlib.Core.Bool.{Bool, true, false}
-use mathlib.Core.Option.{Option, none, some}
-use mathlib.Core.List.{List, [], _∷_, _++_, reverse, reverse-append}
+use mathlib.Core.Option.{none, some}
+use mathlib.Core.List.{[], _∷_, reverse, reverse-append}
 use lib.ListN.{length, take, drop, getD, length-reverse, drop-of-length-le}
 use lib.Seq.{take-suc, take-length, length-take-le, drop-cons}
-use lib.Dec.{ltb, eqb}
+use lib.Dec.{eqb}
 use borrow.Author.Tests.{lt-ltb, le-ltb, ne-eqb, eq-eqb}
 use Rattle.answer.specs.Answer.{Bytes}
 use Rattle.blocks.specs.Blocks.{bit, push, dec, hasZero}
 use Rattle.blocks.specs.Steps.{unread, runLength}
-
-pub positive : (n : ℕ) → (n ≡ 0 → ⊥) → 0 < n
-positive zero h = absurd (h refl)
-positive (suc n) h = omega arith
 
 -- ---- bits
 
@@ -80,6 +77,13 @@ pub run-full : (x : ℕ) → 255 ≤ x → runLength x ≡ 134
 unfolding runLength
 run-full x h = rw (le-ltb x 255 h, runLength)
 
+pub run-least : (x : ℕ) → 7 ≤ runLength x
+run-least x =
+    elim (decLe 255 x) [
+      | yes h ↦ omega (arith, run-full x h)
+      | no h ↦ let l : x < 255 = omega arith in omega (arith, run-closed x l)
+    ]
+
 -- ---- at a place
 
 unread-suc : (c : Bytes) (i : ℕ) → i < length c → unread c (suc i) ≡ getD c i 0 ∷ unread c i
@@ -133,12 +137,30 @@ pub zero-later : (x : ℕ) (s : Bytes) → (x ≡ 0 → ⊥) → hasZero (x ∷ 
 unfolding hasZero
 zero-later x s e = rw (ne-eqb x 0 e, hasZero)
 
-pub zero-here : (s : Bytes) (i : ℕ) → i < length s → getD s i 0 ≡ 0 → hasZero (drop i s) ≡ true
-zero-here s i h e = ap hasZero (drop-cons s i 0 h) ∙ zero-first _ _ e
+-- the least byte so far stands for those that were read
+zero-less : (m b : ℕ) (s : Bytes) → b < m → hasZero (m ∷ b ∷ s) ≡ hasZero (b ∷ s)
+zero-less m b s h = zero-later m (b ∷ s) (λ e. omega arith)
 
-pub zero-not : (s : Bytes) (i : ℕ) → i < length s → (getD s i 0 ≡ 0 → ⊥) → hasZero (drop i s) ≡ hasZero (drop (i + 1) s)
-zero-not s i h e = rw add-one (ap hasZero (drop-cons s i 0 h) ∙ zero-later _ _ e)
+zero-more : (m b : ℕ) (s : Bytes) → m ≤ b → hasZero (m ∷ b ∷ s) ≡ hasZero (m ∷ s)
+zero-more zero b s h = zero-first zero (b ∷ s) refl ∙ sym (zero-first zero s refl)
+zero-more (suc m) b s h =
+    let n : suc m ≡ 0 → ⊥ = λ e. omega arith in
+    zero-later (suc m) (b ∷ s) n ∙ zero-later b s (λ e. omega arith) ∙ sym (zero-later (suc m) s n)
 
-pub zero-end : (s : Bytes) (i : ℕ) → length s ≤ i → hasZero (drop i s) ≡ false
+module _ (s : Bytes) (i m : ℕ) (h : i < length s) where
+  read-next : hasZero (m ∷ drop i s) ≡ hasZero (m ∷ getD s i 0 ∷ drop (i + 1) s)
+  read-next = rw add-one (ap (λ (t : Bytes). hasZero (m ∷ t)) (drop-cons s i 0 h))
+
+  pub least-less : getD s i 0 < m → hasZero (m ∷ drop i s) ≡ hasZero (getD s i 0 ∷ drop (i + 1) s)
+  least-less l = read-next ∙ zero-less m _ _ l
+
+  pub least-more : m ≤ getD s i 0 → hasZero (m ∷ drop i s) ≡ hasZero (m ∷ drop (i + 1) s)
+  least-more l = read-next ∙ zero-more m _ _ l
+
+pub least-end : (s : Bytes) (i m : ℕ) → length s ≤ i → hasZero (m ∷ drop i s) ≡ eqb m 0
 unfolding hasZero
-zero-end s i h = ap hasZero (drop-of-length-le s h)
+least-end s i m h = ap (λ (t : Bytes). hasZero (m ∷ t)) (drop-of-length-le s h) ∙ by-test (eqb m 0)
+  where
+    by-test : (b : Bool) → elim b [ true ↦ true | false ↦ false ] ≡ b
+    by-test true = refl
+    by-test false = refl

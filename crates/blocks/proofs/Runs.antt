@@ -1,5 +1,5 @@
 -- The encoder's equations: what each byte does to the open run, and what the run's state can be.
-use mathlib.Core.Path.{_≡_, refl, sym, ap, _∙_}
+use mathlib.Core.Path.{_≡_, refl, ap, _∙_}
 use Prim.Native.Nat.{ℕ, zero, suc, _+_, _-_, _*_, _^_, _≤_, _<_}
 use native.Mathlib.Nat.{pow-suc}
 use native.Mathlib.Numerals.{add-one}
@@ -11,7 +11,7 @@ use lib.Dec.{ltb, eqb}
 use borrow.Author.Tests.{lt-ltb, le-ltb, eq-eqb, ne-eqb}
 use Rattle.answer.specs.Answer.{Bytes}
 use Rattle.blocks.specs.Blocks.{Turn, turned, turn, closing, enc, lastRun}
-use Rattle.blocks.specs.Steps.{Open, Turns, Closes}
+use Rattle.blocks.specs.Steps.{Open}
 
 -- the coding and the last run follow the turns
 module _ (k m x : ℕ) (xs : Bytes) {out : Bytes} {k′ m′ : ℕ} (e : turn k m x ≡ turned out k′ m′) where
@@ -88,45 +88,3 @@ open-mask k m h b = record { short = omega arith; below = b; clear = λ g. absur
 
 pub below-six : (k m : ℕ) → Open k m → k ≡ 6 → m < 64
 below-six k m v h = rw h at (v .below)
-
--- ---- the turns, as the code answers them
-
-module _ (k m x : ℕ) (v : Open k m) where
-  pub turns-zero : x ≡ 0 → k < 7 → (k ≡ 6 → ⊥) → (w : ℕ) → w ≡ 2 ^ k → Turns k m x (k + 1) (m + w) 0 0 0
-  turns-zero e l n w q =
-      let h : k < 6 = omega (arith, n) in
-      let p = pow-more k in
-      let b = v .below in
-      record { few = omega arith; run = open-mask k (m + w) h (omega arith); is = turn-zero k m x e h ∙ ap (λ (a : ℕ). turned [] (k + 1) (m + a)) (sym q) }
-
-  pub turns-zero6 : x ≡ 0 → k ≡ 6 → Turns k m x 0 0 1 (m + 64) 0
-  turns-zero6 e h =
-      record { few = omega arith; run = open-none; is = turn-zero6 k m x e h ∙ ap (λ (a : ℕ). turned ((m + 2 ^ a) ∷ []) 0 0) h }
-
-  pub turns-data : (x ≡ 0 → ⊥) → k < 6 → Turns k m x (k + 1) m 1 x 0
-  turns-data e h = let p = pow-more k in let b = v .below in record { few = omega arith; run = open-mask k m h (omega arith); is = turn-data k m x e h }
-
-  pub turns-data6 : (x ≡ 0 → ⊥) → k < 7 → 6 ≤ k → m ≡ 0 → Turns k m x 7 0 1 x 0
-  turns-data6 e l h z = record { few = omega arith; run = open-run 7 (omega arith); is = turn-data6 k m x e (omega arith) z }
-
-  pub turns-mask6 : (x ≡ 0 → ⊥) → k < 7 → 6 ≤ k → (m ≡ 0 → ⊥) → Turns k m x 0 0 2 x m
-  turns-mask6 e l h z = record { few = omega arith; run = open-none; is = turn-mask6 k m x e (omega arith) z }
-
-  pub turns-close : x ≡ 0 → 7 ≤ k → Turns k m x 0 0 1 (128 + (k - 7)) 0
-  turns-close e h = record { few = omega arith; run = open-none; is = turn-close k m x e h }
-
-  pub turns-full : (x ≡ 0 → ⊥) → k ≡ 133 → Turns k m x 0 0 2 x 255
-  turns-full e h = record { few = omega arith; run = open-none; is = turn-full k m x e h }
-
-  pub turns-run : (x ≡ 0 → ⊥) → 7 ≤ k → (k ≡ 133 → ⊥) → Turns k m x (k + 1) 0 1 x 0
-  turns-run e h n = let s = v .short in record { few = omega arith; run = open-run (k + 1) (omega (arith, n)); is = turn-run k m x e h n }
-
-module _ (k m : ℕ) where
-  pub closes-none : k ≡ 0 → Closes k m 0 0 0
-  closes-none e = record { few = omega arith; is = closing-none k m e }
-
-  pub closes-part : (k ≡ 0 → ⊥) → k < 7 → (w : ℕ) → w ≡ 2 ^ k → Closes k m 1 (m + (128 - w)) 0
-  closes-part n h w q = record { few = omega arith; is = closing-part k m (omega (arith, n)) h ∙ ap (λ (a : ℕ). (m + (128 - a)) ∷ []) (sym q) }
-
-  pub closes-long : 7 ≤ k → Closes k m 1 (128 + (k - 7)) 0
-  closes-long h = record { few = omega arith; is = closing-long k m h }

@@ -43,7 +43,7 @@ push-front b r (some s) = refl
 
 -- ---- no zero byte
 
-zero-free-append : (a b : Bytes) → hasZero a ≡ false → hasZero b ≡ false → hasZero (a ++ b) ≡ false
+pub zero-free-append : (a b : Bytes) → hasZero a ≡ false → hasZero b ≡ false → hasZero (a ++ b) ≡ false
 zero-free-append [] b p q = q
 zero-free-append (x ∷ a) b p q =
     elim (ℕ-discrete x 0) [
@@ -51,11 +51,11 @@ zero-free-append (x ∷ a) b p q =
       | no e ↦ zero-later x (a ++ b) e ∙ zero-free-append a b (sym (zero-later x a e) ∙ p) q
     ]
 
-zero-free-none : hasZero [] ≡ false
+pub zero-free-none : hasZero [] ≡ false
 unfolding hasZero
 zero-free-none = refl
 
-zero-free-one : (x : ℕ) → (x ≡ 0 → ⊥) → hasZero (x ∷ []) ≡ false
+pub zero-free-one : (x : ℕ) → (x ≡ 0 → ⊥) → hasZero (x ∷ []) ≡ false
 zero-free-one x n = zero-later x [] n ∙ zero-free-none
 
 zero-free-two : (x y : ℕ) → (x ≡ 0 → ⊥) → (y ≡ 0 → ⊥) → hasZero (x ∷ y ∷ []) ≡ false

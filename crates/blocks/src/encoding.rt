@@ -1,166 +1,205 @@
-// Encoding: the message is read forward, a byte a turn; a run of bytes stays open until a control closes it.
+// Encoding: the message is read forward, a block at a time, and the control of a block is written behind its data.
 ghost use mathlib.Core.Path.{_≡_};
-ghost use Prim.Native.Nat.{_+_, _^_, _≤_, _<_};
-ghost use mathlib.Core.List.{_++_};
-ghost use lib.ListN.{length, drop};
+ghost use mathlib.Core.List.{[], _∷_};
+ghost use Prim.Native.Nat.{_+_, _≤_, _<_};
+ghost use lib.ListN.{length};
 ghost use lib.Seq.{sets};
-ghost use Rattle.answer.specs.Answer.{limit};
-ghost use Rattle.blocks.specs.Blocks.{encode};
-ghost use Rattle.blocks.specs.Steps.{Open, firstOf, Turns, Closes};
+ghost use lib.Dec.{ltb};
+ghost use Rattle.blocks.specs.Steps.{keep, marks, part, Lesser, Packs, Carries, Maskable, Codes, Writes};
 
-// The open run, and the n bytes, of a and b, that are to be written.
-struct Turned {
-    k: u8,
+// The places after a block, in the message and in the output; or that the output has no room for it.
+pub enum Placed {
+    At(usize, usize),
+    Short,
+}
+
+// The place behind the data, and the mask of the zeros among them.
+struct Packed {
+    o: usize,
     mask: u8,
-    n: u8,
-    a: u8,
-    b: u8,
 }
 
-fn wide(x: u8) -> usize
-    ensures { λ r. ⌜ r ≡ x ⌝ }
+// How many bytes of data a byte of the message is.
+fn one(x: u8) -> usize
+    ensures { λ r. ⌜ r ≡ length (keep (x ∷ [])) ⌝ }
 {
-    x as usize
+    if x == 0 { 0 } else { 1 }
 }
 
-fn weight(k: u8) -> u8
-    requires { ⌜ k < 7 ⌝ }
-    ensures { λ r. ⌜ r ≡ 2 ^ k ⌝ }
+// What a byte of the message puts into the mask, where w is its bit.
+fn mark(x: u8, w: u8) -> u8
+    ensures { λ r. ⌜ r ≡ marks (x ∷ []) w ⌝ }
 {
-    1 << k
+    if x == 0 { w } else { 0 }
 }
 
-// The run goes on, and n bytes are written: none, or x.
-fn grown(k: u8, mask: u8, n: u8, x: u8) -> Turned
-    ensures { λ r. ⌜ r ≡ record { k = k; mask = mask; n = n; a = x; b = 0 } ⌝ }
+fn lesser(a: usize, b: usize) -> usize
+    ensures { λ r. ⌜ Lesser a b r ⌝ }
 {
-    Turned {
-        k,
-        mask,
-        n,
-        a: x,
-        b: 0,
+    if a < b { a } else { b }
+}
+
+// Is there room for the data of the c bytes from place i on, and for a control behind them?
+fn has_room(message: &[u8], i: usize, c: usize, room: usize) -> bool
+    requires { ⌜ i + c ≤ length (now message) ⌝ }
+    ensures { λ r. ⌜ r ≡ ltb (length (keep (part (now (message .entry)) i c))) room ⌝ }
+{
+    if c < room {
+        return true;
+    }
+    let mut k = 0;
+    let mut n = 0;
+    while k < c {
+        n += one(message[i + k]);
+        k += 1;
+    }
+    n < room
+}
+
+// Writes the data of the c bytes from place i on. A zero is written too, and then what comes next over it: that is quicker than a
+// branch. Bytes that the message lacks of seven count as zeros.
+fn pack(message: &[u8], i: usize, c: usize, out: &mut [u8], o: usize) -> Packed
+    requires { ⌜ i + c ≤ length (now message) ⌝ }
+    requires { ⌜ c ≤ 7 ⌝ }
+    requires { ⌜ o + length (keep (part (now message) i c)) < length (now out) ⌝ }
+    ensures { λ r. ⌜ Packs (part (now (message .entry)) i c) o (now (out .entry)) (r .o) (r .mask) (now (out .exit)) ⌝ }
+{
+    let mut k = 0;
+    let mut w: u8 = 1;
+    let mut mask: u8 = 0;
+    let mut p = o;
+    while k < c {
+        let x = message[i + k];
+        out[p] = x;
+        p += one(x);
+        mask += mark(x, w);
+        w *= 2;
+        k += 1;
+    }
+    Packed {
+        o: p,
+        mask: mask + (128 - w),
     }
 }
 
-// A control closes the run, behind n - 1 bytes of data.
-fn closed(n: u8, a: u8, b: u8) -> Turned
-    ensures { λ r. ⌜ r ≡ record { k = 0; mask = 0; n = n; a = a; b = b } ⌝ }
+// Copies the bytes from place i on, up to a zero, and at most as many as that; answers how many they are.
+fn carry(message: &[u8], i: usize, most: usize, out: &mut [u8], o: usize) -> usize
+    requires { ⌜ i + most ≤ length (now message) ⌝ }
+    requires { ⌜ o + most ≤ length (now out) ⌝ }
+    ensures { λ r. ⌜ Carries (now (message .entry)) i most o (now (out .entry)) r (now (out .exit)) ⌝ }
 {
-    Turned {
-        k: 0,
-        mask: 0,
-        n,
-        a,
-        b,
-    }
-}
-
-// A byte more in a run that keeps a mask.
-fn turn_short(k: u8, mask: u8, x: u8) -> Turned
-    requires { ⌜ Open k mask ⌝ }
-    requires { ⌜ k < 7 ⌝ }
-    ensures { λ r. ⌜ Turns k mask x (r .k) (r .mask) (r .n) (r .a) (r .b) ⌝ }
-{
-    if x == 0 {
-        if k == 6 {
-            return closed(1, mask + 64, 0);
+    let mut n = 0;
+    while n < most {
+        let x = message[i + n];
+        if x == 0 {
+            return n;
         }
-        return grown(k + 1, mask + weight(k), 0, 0);
+        out[o + n] = x;
+        n += 1;
     }
-    if k < 6 {
-        return grown(k + 1, mask, 1, x);
-    }
-    if mask == 0 {
-        return grown(7, 0, 1, x);
-    }
-    closed(2, x, mask)
+    n
 }
 
-// A byte more in the run.
-fn turn(k: u8, mask: u8, x: u8) -> Turned
-    requires { ⌜ Open k mask ⌝ }
-    ensures { λ r. ⌜ Turns k mask x (r .k) (r .mask) (r .n) (r .a) (r .b) ⌝ }
+// Goes on with a run of which seven bytes are written: up to a zero, to 134 bytes, or to the message's end.
+fn run(message: &[u8], i: usize, out: &mut [u8], o: usize) -> Placed
+    requires { ⌜ i ≤ length (now message) ⌝ }
+    requires { ⌜ o < length (now out) ⌝ }
+    ensures { λ r. ⌜ Codes 7 (now (message .entry)) i o (now (out .entry)) r (now (out .exit)) ⌝ }
 {
-    if k < 7 {
-        return turn_short(k, mask, x);
+    let most = lesser(message.len() - i, 127);
+    let n = carry(message, i, lesser(most, out.len() - o - 1), out, o);
+    out[o + n] = 128 + n as u8;
+    if most <= n {
+        return Placed::At(i + n, o + n + 1);
     }
-    if x == 0 {
-        return closed(1, 128 + (k - 7), 0);
+    if message[i + n] == 0 {
+        return Placed::At(i + n + 1, o + n + 1);
     }
-    if k == 133 {
-        return closed(2, x, 255);
-    }
-    grown(k + 1, 0, 1, x)
+    Placed::Short
 }
 
-// The message's end closes the run.
-fn close(k: u8, mask: u8) -> Turned
-    requires { ⌜ Open k mask ⌝ }
-    ensures { λ r. ⌜ Closes k mask (r .n) (r .a) (r .b) ⌝ }
+// How many of the seven bytes from place i on are zero.
+fn holes(message: &[u8], i: usize) -> u8
+    requires { ⌜ i + 7 ≤ length (now message) ⌝ }
+    ensures { λ r. ⌜ r + length (keep (part (now (message .entry)) i 7)) ≡ 7 ⌝ }
 {
-    if k == 0 {
-        return closed(0, 0, 0);
+    let mut k = 0;
+    let mut n: u8 = 0;
+    while k < 7 {
+        n += mark(message[i + k], 1);
+        k += 1;
     }
-    if k < 7 {
-        return closed(1, mask + (128 - weight(k)), 0);
-    }
-    closed(1, 128 + (k - 7), 0)
+    n
 }
 
-// Inner: how long the coding of a message is.
-pub fn measure(message: &[u8]) -> usize
-    requires { ⌜ length (now message) ≤ limit ⌝ }
-    ensures { λ r. ⌜ r ≡ length (encode (now (message .entry))) ⌝ }
+fn copy_seven(message: &[u8], i: usize, out: &mut [u8], o: usize)
+    requires { ⌜ i + 7 ≤ length (now message) ⌝ }
+    requires { ⌜ o + 7 ≤ length (now out) ⌝ }
+    ensures { λ _. ⌜ now (out .exit) ≡ sets (now (out .entry)) o (part (now (message .entry)) i 7) ⌝ }
 {
-    let mut i: usize = 0;
-    let mut o: usize = 0;
-    let mut k: u8 = 0;
-    let mut mask: u8 = 0;
+    let mut k = 0;
+    while k < 7 {
+        out[o + k] = message[i + k];
+        k += 1;
+    }
+}
+
+// A block that begins with seven bytes of data.
+fn long(message: &[u8], i: usize, out: &mut [u8], o: usize) -> Placed
+    requires { ⌜ i + 7 ≤ length (now message) ⌝ }
+    requires { ⌜ length (keep (part (now message) i 7)) ≡ 7 ⌝ }
+    requires { ⌜ o ≤ length (now out) ⌝ }
+    ensures { λ r. ⌜ Codes 0 (now (message .entry)) i o (now (out .entry)) r (now (out .exit)) ⌝ }
+{
+    if out.len() - o < 8 {
+        return Placed::Short;
+    }
+    copy_seven(message, i, out, o);
+    run(message, i + 7, out, o + 7)
+}
+
+// A block that its mask closes, of the c bytes from place i on.
+fn block(message: &[u8], i: usize, c: usize, out: &mut [u8], o: usize) -> Placed
+    requires { ⌜ Maskable (now message) i c ⌝ }
+    requires { ⌜ o ≤ length (now out) ⌝ }
+    ensures { λ r. ⌜ Codes 0 (now (message .entry)) i o (now (out .entry)) r (now (out .exit)) ⌝ }
+{
+    if !has_room(message, i, c, out.len() - o) {
+        return Placed::Short;
+    }
+    let p = pack(message, i, c, out, o);
+    let at = p.o;
+    out[at] = p.mask;
+    Placed::At(i + c, at + 1)
+}
+
+fn step(message: &[u8], i: usize, out: &mut [u8], o: usize) -> Placed
+    requires { ⌜ i < length (now message) ⌝ }
+    requires { ⌜ o ≤ length (now out) ⌝ }
+    ensures { λ r. ⌜ Codes 0 (now (message .entry)) i o (now (out .entry)) r (now (out .exit)) ⌝ }
+{
+    let left = message.len() - i;
+    if left < 7 {
+        return block(message, i, left, out, o);
+    }
+    if holes(message, i) == 0 {
+        return long(message, i, out, o);
+    }
+    block(message, i, 7, out, o)
+}
+
+// Inner: writes the coding of a message, if there is room for it.
+pub fn write(message: &[u8], out: &mut [u8]) -> Placed
+    ensures { λ r. ⌜ Writes (now (message .entry)) (now (out .entry)) r (now (out .exit)) ⌝ }
+{
+    let mut i = 0;
+    let mut o = 0;
     while i < message.len() {
-        let t = turn(k, mask, message[i]);
-        o += wide(t.n);
-        k = t.k;
-        mask = t.mask;
-        i += 1;
+        let Placed::At(next, place) = step(message, i, out, o) else {
+            return Placed::Short;
+        };
+        i = next;
+        o = place;
     }
-    let t = close(k, mask);
-    o + wide(t.n)
-}
-
-// Writes the bytes of a turn at place o, and answers the place after them.
-fn emit(out: &mut [u8], o: usize, t: Turned) -> usize
-    requires { ⌜ t .n ≤ 2 ⌝ }
-    requires { ⌜ o + t .n ≤ length (now out) ⌝ }
-    ensures { λ r. ⌜ r ≡ o + t .n ⌝ }
-    ensures { λ r. ⌜ now (out .exit) ≡ sets (now (out .entry)) o (firstOf (t .n) (t .a) (t .b)) ⌝ }
-{
-    if t.n == 0 {
-        return o;
-    }
-    out[o] = t.a;
-    if t.n == 1 {
-        return o + 1;
-    }
-    out[o + 1] = t.b;
-    o + 2
-}
-
-// Inner: writes the coding of a message that was measured.
-pub fn write(message: &[u8], out: &mut [u8])
-    requires { ⌜ length (encode (now message)) ≤ length (now out) ⌝ }
-    ensures { λ _. ⌜ now (out .exit) ≡ encode (now (message .entry)) ++ drop (length (encode (now (message .entry)))) (now (out .entry)) ⌝ }
-{
-    let mut i: usize = 0;
-    let mut o: usize = 0;
-    let mut k: u8 = 0;
-    let mut mask: u8 = 0;
-    while i < message.len() {
-        let t = turn(k, mask, message[i]);
-        o = emit(out, o, t);
-        k = t.k;
-        mask = t.mask;
-        i += 1;
-    }
-    emit(out, o, close(k, mask));
+    Placed::At(i, o)
 }

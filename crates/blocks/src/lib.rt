@@ -1,13 +1,35 @@
 // rzCOBS: a coding of messages in which no byte is zero, so that a zero can close it.
 //
-// `decode` and `encode` are 01's Blocks. Each goes over its input twice: once to judge it and to measure the result, and
-// then, if the result fits, to write it. So a refusal is known before a byte is written.
+// `decode` and `encode` are 01's Blocks. `decode` goes over its input twice: once to judge it and to measure the message, and
+// then, if the message fits, to write it from its end. `encode` writes as it goes, and finds on the way whether there is room.
 mod decoding;
 mod encoding;
 
+ghost use mathlib.Core.Path.{_≡_};
+ghost use mathlib.Core.Bool.{false};
+ghost use Prim.Native.Nat.{_≤_};
+ghost use lib.ListN.{length};
+ghost use Rattle.answer.specs.Answer.{limit};
+ghost use Rattle.blocks.specs.Blocks.{hasZero};
 ghost use Rattle.blocks.specs.Promises.{Decodes, Encodes};
 use answer::Outcome;
 use answer::Refusal;
+
+// Inner: the message that a coding without a zero stands for, for a caller who has looked.
+pub fn decode_zero_free(coding: &[u8], out: &mut [u8]) -> Outcome
+    requires { ⌜ length (now coding) ≤ limit ⌝ }
+    requires { ⌜ hasZero (now coding) ≡ false ⌝ }
+    ensures { λ r. ⌜ Decodes (now (coding .entry)) (now (out .entry)) r (now (out .exit)) ⌝ }
+{
+    let decoding::Measured::Length(n) = decoding::measure(coding) else {
+        return answer::refuse(out, Refusal::Malformed);
+    };
+    if out.len() < n {
+        return answer::refuse(out, Refusal::Room);
+    }
+    decoding::write(coding, out, n);
+    Outcome::Done(n)
+}
 
 // The message that a coding stands for: SIZE, ZERO, MALFORMED or ROOM, or its length.
 pub fn decode(coding: &[u8], out: &mut [u8]) -> Outcome
@@ -19,14 +41,7 @@ pub fn decode(coding: &[u8], out: &mut [u8]) -> Outcome
     if decoding::has_zero(coding) {
         return answer::refuse(out, Refusal::Zero);
     }
-    let decoding::Measured::Length(n) = decoding::measure(coding) else {
-        return answer::refuse(out, Refusal::Malformed);
-    };
-    if out.len() < n {
-        return answer::refuse(out, Refusal::Room);
-    }
-    decoding::write(coding, out, n);
-    Outcome::Done(n)
+    decode_zero_free(coding, out)
 }
 
 // The coding of a message: SIZE or ROOM, or its length.
@@ -36,10 +51,8 @@ pub fn encode(message: &[u8], out: &mut [u8]) -> Outcome
     if answer::LIMIT < message.len() {
         return answer::refuse(out, Refusal::Size);
     }
-    let size = encoding::measure(message);
-    if out.len() < size {
+    let encoding::Placed::At(_, size) = encoding::write(message, out) else {
         return answer::refuse(out, Refusal::Room);
-    }
-    encoding::write(message, out);
+    };
     Outcome::Done(size)
 }

@@ -85,13 +85,16 @@ module _ (s : Stream) (store : Bytes) (z : ℕ) (at : AtFrame s store z) where
   closed-there : hasZero (take (s .held) store) ≡ true
   closed-there = found (take (s .held) store) z (at .first) (omega (arith, at .closed, length-take-le (s .held) store (at .within)))
 
+  pub frame-small : claims s store ≡ verdict.Ok → length (take z store) ≤ limit
+  frame-small q = omega (arith, sound q .small, ap length frame-is, before-le (take (s .held) store), length-take-le (s .held) store (at .within))
+
+  pub frame-free : hasZero (take z store) ≡ false
+  frame-free = ap hasZero frame-is ∙ before-clear (take (s .held) store)
+
   judged : (room : ℕ) → claims s store ≡ verdict.Ok → takeAnswer s store room ≡ decodeAnswer (take z store) room
   unfolding takeAnswer
   judged room q =
-      let small : length (take z store) ≤ limit =
-      omega (arith, sound q .small, ap length frame-is, before-le (take (s .held) store), length-take-le (s .held) store (at .within)) in
-      let free : hasZero (take z store) ≡ false = ap hasZero frame-is ∙ before-clear (take (s .held) store) in
-      rw (q, closed-there, takeAnswer) (ap (λ (f : Bytes). decoded (decode f) room) (sym frame-is) ∙ sym (decode-blocks (take z store) room small free))
+      rw (q, closed-there, takeAnswer) (ap (λ (f : Bytes). decoded (decode f) room) (sym frame-is) ∙ sym (decode-blocks (take z store) room (frame-small q) frame-free))
 
 pub at-frame : (s : Stream) (store : Bytes) (z : ℕ) → claims s store ≡ verdict.Ok → z ≡ length (frame s store) → (z ≡ s .held → ⊥) → AtFrame s store z
 at-frame s store z q e n = record {

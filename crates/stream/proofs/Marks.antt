@@ -7,8 +7,8 @@ use native.Mathlib.Numerals.{sub-one}
 use native.Mathlib.Omega.{arith}
 use mathlib.Core.Bool.{Bool, true, false, cond, true≢false, false≢true}
 use mathlib.Core.List.{[], _∷_, _++_}
-use lib.ListN.{length, take, drop, getD, drop-of-length-le}
-use lib.Seq.{take-suc, drop-cons, take-all, length-take-le}
+use lib.ListN.{length, take, drop, getD, length-append, take-append-drop, drop-of-length-le}
+use lib.Seq.{take-suc, take-add, drop-cons, take-all, length-take-le}
 use Rattle.answer.specs.Answer.{Bytes}
 use Rattle.blocks.specs.Blocks.{hasZero}
 use Rattle.blocks.proofs.Reading as reading
@@ -77,6 +77,32 @@ found l z e h = by-test (hasZero l) (λ t. t) (λ f. absurd (omega (arith, ap le
 pub missed : (l : Bytes) (z : ℕ) → z ≡ length (before l) → length l ≤ z → hasZero l ≡ false
 missed l z e h = by-test (hasZero l) (λ t. absurd (omega (arith, before-less l t))) (λ f. f)
 
+-- bytes without a zero, and more behind them
+free-then : (a b : Bytes) → hasZero a ≡ false → hasZero (a ++ b) ≡ hasZero b
+unfolding hasZero
+free-then [] b h = refl
+free-then (zero ∷ a) b h = absurd (true≢false h)
+free-then (suc x ∷ a) b h = zero-later x (a ++ b) ∙ free-then a b (later x a h)
+
+before-then : (a b : Bytes) → hasZero a ≡ false → before (a ++ b) ≡ a ++ before b
+unfolding before hasZero
+before-then [] b h = refl
+before-then (zero ∷ a) b h = absurd (true≢false h)
+before-then (suc x ∷ a) b h = ap (λ (t : Bytes). suc x ∷ t) (before-then a b (later x a h))
+
+-- the first i bytes have no zero; nor have n more, if a look at those finds none
+abbrev pub Free : Bytes → ℕ → Type 0
+Free l i = (i ≤ length l) × (hasZero (take i l) ≡ false)
+
+pub free-none : (l : Bytes) → Free l 0
+unfolding hasZero
+free-none l = (omega arith, refl)
+
+pub free-more : (l : Bytes) (i n : ℕ) → i + n ≤ length l → {r : Bool} → r ≡ hasZero (take (i + n - i) (drop i l)) → r ≡ false → Free l i → Free l (i + n)
+free-more l i n h e x f =
+    let all : i + n - i ≡ n = omega arith in
+    (h, ap hasZero (take-add i n l) ∙ free-then (take i l) (take n (drop i l)) (f .1) ∙ sym (rw all at e) ∙ x)
+
 -- a search from the front: it stands at i, and before the first zero of what is left there are so many bytes more
 abbrev pub Searched : Bytes → ℕ → Type 0
 Searched l i = (i ≤ length l) × (length (before l) ≡ i + length (before (drop i l)))
@@ -86,8 +112,14 @@ unfolding before
 before-step zero l h = absurd (h refl)
 before-step (suc x) l h = refl
 
-pub searched-none : (l : Bytes) → Searched l 0
-searched-none l = (omega arith, omega arith)
+pub searched-free : (l : Bytes) (i : ℕ) → Free l i → Searched l i
+searched-free l i f = (
+  f .0,
+  ap (λ (t : Bytes). length (before t)) (sym (take-append-drop i l))
+      ∙ ap length (before-then (take i l) (drop i l) (f .1))
+      ∙ length-append (take i l) (before (drop i l))
+      ∙ ap (λ (n : ℕ). n + length (before (drop i l))) (length-take-le i l (f .0)),
+)
 
 pub searched-more : (l : Bytes) (i : ℕ) → i < length l → getD l i 0 ≢ 0 → Searched l i → Searched l (suc i)
 searched-more l i h x s =
@@ -106,6 +138,36 @@ unfolding before
 searched-all l i h s =
     let e : length (before (drop i l)) ≡ 0 = ap (λ (t : Bytes). length (before t)) (drop-of-length-le l {i = i} h) in
     omega (arith, s .1)
+
+hasZero-snoc : (a : Bytes) (x : ℕ) → x ≢ 0 → hasZero (a ++ x ∷ []) ≡ hasZero a
+unfolding hasZero
+hasZero-snoc [] zero h = absurd (h refl)
+hasZero-snoc [] (suc x) h = zero-later x []
+hasZero-snoc (zero ∷ a) x h = refl
+hasZero-snoc (suc y ∷ a) x h = zero-later y (a ++ x ∷ []) ∙ hasZero-snoc a x h ∙ sym (zero-later y a)
+
+hasZero-end : (a : Bytes) → hasZero (a ++ zero ∷ []) ≡ true
+unfolding hasZero
+hasZero-end [] = refl
+hasZero-end (zero ∷ a) = refl
+hasZero-end (suc x ∷ a) = zero-later x (a ++ zero ∷ []) ∙ hasZero-end a
+
+-- a look at all the bytes: what was seen so far is whether the first i have a zero
+abbrev pub Looked : Bytes → ℕ → Bool → Type 0
+Looked l i seen = (i ≤ length l) × (seen ≡ hasZero (take i l))
+
+pub looked-none : (l : Bytes) → Looked l 0 false
+unfolding hasZero
+looked-none l = (omega arith, refl)
+
+pub looked-zero : (l : Bytes) (i : ℕ) → i < length l → getD l i 0 ≡ 0 → Looked l (suc i) true
+looked-zero l i h z = (h, sym (ap hasZero (take-suc l i 0 h ∙ ap (λ (x : ℕ). take i l ++ x ∷ []) z) ∙ hasZero-end (take i l)))
+
+pub looked-more : (l : Bytes) (i : ℕ) (seen : Bool) → i < length l → getD l i 0 ≢ 0 → Looked l i seen → Looked l (suc i) seen
+looked-more l i seen h x s = (h, s .1 ∙ sym (ap hasZero (take-suc l i 0 h) ∙ hasZero-snoc (take i l) (getD l i 0) x))
+
+pub looked-all : (l : Bytes) (i : ℕ) (seen : Bool) → length l ≤ i → Looked l i seen → seen ≡ hasZero l
+looked-all l i seen h s = s .1 ∙ ap hasZero (take-all i l h)
 
 -- ---- zeros in front
 
@@ -137,19 +199,6 @@ leading-all l i h s =
     (s .0, sym e ∙ s .1)
 
 -- ---- the last zero
-
-hasZero-snoc : (a : Bytes) (x : ℕ) → x ≢ 0 → hasZero (a ++ x ∷ []) ≡ hasZero a
-unfolding hasZero
-hasZero-snoc [] zero h = absurd (h refl)
-hasZero-snoc [] (suc x) h = zero-later x []
-hasZero-snoc (zero ∷ a) x h = refl
-hasZero-snoc (suc y ∷ a) x h = zero-later y (a ++ x ∷ []) ∙ hasZero-snoc a x h ∙ sym (zero-later y a)
-
-hasZero-end : (a : Bytes) → hasZero (a ++ zero ∷ []) ≡ true
-unfolding hasZero
-hasZero-end [] = refl
-hasZero-end (zero ∷ a) = refl
-hasZero-end (suc x ∷ a) = zero-later x (a ++ zero ∷ []) ∙ hasZero-end a
 
 pub closed-none : (l : Bytes) → hasZero l ≡ false → closed l ≡ []
 unfolding closed

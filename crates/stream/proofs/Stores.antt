@@ -4,8 +4,8 @@ use Prim.Native.Nat.{ℕ, zero, suc, _+_, _-_, _≤_, _<_}
 use native.Mathlib.Nat.{not-suc-le-zero, le-of-suc-le-suc, sub-zero, suc-sub-suc}
 use native.Mathlib.Omega.{arith}
 use mathlib.Core.List.{[], _∷_, _++_, append-nil, append-assoc}
-use lib.ListN.{length, take, drop, getD, set, length-append, length-drop, length-set, drop-of-length-le}
-use lib.Seq.{length-take-le, take-all, take-at, take-suc, take-nil, drop-cons, getD-append-add, getD-drop, set-at}
+use lib.ListN.{length, take, drop, length-append, length-drop, drop-of-length-le}
+use lib.Seq.{length-take-le, take-all, take-length, take-at, drop-at, take-nil, take-add, drop-drop, paste, length-paste}
 use Rattle.answer.specs.Answer.{Bytes, zeros}
 use Rattle.stream.specs.Calls.{storeOf}
 
@@ -53,6 +53,33 @@ module _ (l more : Bytes) (held : ℕ) (ys : Bytes) (h : held + length more ≤ 
       p ∙ ap₂ storeOf copied-length
       (ap (take (held + length more)) copied ∙ take-at (take held l ++ more) (drop (length more) (drop held l)) (held + length more) front)
 
+-- `carry`: a block takes n bytes of the store, from `from` on, and gives them at `to`
+pub lent-length : (l : Bytes) (from n : ℕ) → from + n ≤ length l → length (take (from + n - from) (drop from l)) ≡ n
+lent-length l from n h = length-take-le (from + n - from) (drop from l) (omega (arith, length-drop from l)) ∙ omega arith
+
+module _ (l block : Bytes) (from n : ℕ) (b : Bytes) (h : from + n ≤ length l)
+    (e : b ≡ take (length (take (from + n - from) (drop from l))) (take (from + n - from) (drop from l)) ++ drop (length (take (from + n - from) (drop from l))) block) where
+  given-is : take n b ≡ take n (drop from l)
+  given-is =
+      let lent : Bytes = take (from + n - from) (drop from l) in
+      let all : from + n - from ≡ n = omega arith in
+      ap (take n) (e ∙ ap (λ (t : Bytes). t ++ drop (length lent) block) (take-length lent))
+      ∙ take-at lent (drop (length lent) block) n (lent-length l from n h)
+      ∙ ap (λ (k : ℕ). take k (drop from l)) all
+
+  pub given-length : n ≡ length (take n b)
+  given-length = sym (ap length given-is ∙ length-take-le n (drop from l) (omega (arith, length-drop from l)))
+
+  pub given-fits : (to : ℕ) → to + n ≤ length l → length (take n b) ≤ length (take (length l - to) (drop to l))
+  given-fits to k = omega (arith, given-length, ap length (part-end to l), length-drop to l)
+
+  pub carried : (to : ℕ) (ys : Bytes) → to + n ≤ length l → ys ≡ take (length (take n b)) (take n b) ++ drop (length (take n b)) (take (length l - to) (drop to l))
+      → written l to ys ≡ paste l to (drop from l) n
+  carried to ys k f =
+      copied l (take n b) to ys (omega (arith, given-length)) f
+      ∙ ap₂ (λ (m : Bytes) (j : ℕ). (take to l ++ m) ++ drop j (drop to l)) given-is (sym given-length)
+      ∙ ap (λ (t : Bytes). (take to l ++ take n (drop from l)) ++ t) (drop-drop n to l)
+
 -- `shift`: i bytes are moved to the front, from `from` on
 pub record Shifted (old : Bytes) (from i : ℕ) (new : Bytes) : Type 0 where
   pub same : length new ≡ length old
@@ -61,25 +88,33 @@ pub record Shifted (old : Bytes) (from i : ℕ) (new : Bytes) : Type 0 where
 pub shifted-none : (old : Bytes) (from : ℕ) → Shifted old from 0 old
 shifted-none old from = record { same = refl; is = refl }
 
-pub shifted-more : {old : Bytes} {from i : ℕ} {new : Bytes} → from + i < length old → Shifted old from i new → Shifted old from (suc i) (set new i (getD new (from + i) 0))
-shifted-more {old} {from} {i} {new} h s =
-    let moved : Bytes = take i (drop from old) in
-    let n : length moved ≡ i = length-take-le i (drop from old) (omega (arith, length-drop from old)) in
-    let byte : getD new (from + i) 0 ≡ getD (drop from old) i 0 =
-    ap₂ (λ (l : Bytes) (k : ℕ). getD l k 0) (s .is) (omega arith)
-    ∙ getD-append-add moved (drop i old) from 0 ∙ getD-drop i old from 0
-    ∙ ap (λ (k : ℕ). getD old k 0) (omega arith) ∙ sym (getD-drop from old i 0) in
-    record {
-      same = length-set new i (getD new (from + i) 0) ∙ s .same;
-      is =
-          ap₂ (λ (l : Bytes) (x : ℕ). set l i x) (s .is ∙ ap (λ (t : Bytes). moved ++ t) (drop-cons old i 0 (omega arith))) byte
-          ∙ set-at moved (getD old i 0) (drop (suc i) old) (getD (drop from old) i 0) i n
-          ∙ sym (append-assoc moved (getD (drop from old) i 0 ∷ []) (drop (suc i) old))
-          ∙ ap (λ (t : Bytes). t ++ drop (suc i) old) (sym (take-suc (drop from old) i 0 (omega (arith, length-drop from old))));
-    }
+module _ {old : Bytes} {from i : ℕ} {new : Bytes} (s : Shifted old from i new) (h : from + i ≤ length old) where
+  moved-length : length (take i (drop from old)) ≡ i
+  moved-length = length-take-le i (drop from old) (omega (arith, length-drop from old))
 
-pub shifted-all : {old : Bytes} {from i n : ℕ} {new : Bytes} → Shifted old from i new → i ≤ n → n ≤ i → new ≡ take n (drop from old) ++ drop n old
-shifted-all {old} {from} {i} {n} s h k = let e : i ≡ n = omega arith in rw e at (s .is)
+  -- what stands past the moved bytes stood there before
+  still : (m : ℕ) → drop (i + m) new ≡ drop (i + m) old
+  still m =
+      sym (drop-drop m i new) ∙ ap (drop m) (ap (drop i) (s .is) ∙ drop-at (take i (drop from old)) (drop i old) i moved-length) ∙ drop-drop m i old
+
+  next-is : drop (from + i) new ≡ drop i (drop from old)
+  next-is =
+      let e : from + i ≡ i + from = omega arith in
+      ap (λ (m : ℕ). drop m new) e ∙ still from ∙ ap (λ (m : ℕ). drop m old) (sym e) ∙ sym (drop-drop i from old)
+
+  pub shifted-more : (k : ℕ) (next : Bytes) → from + i + k ≤ length old → next ≡ paste new i (drop (from + i) new) k → Shifted old from (i + k) next
+  shifted-more k next m e =
+      record {
+        same = ap length e ∙ length-paste new i (drop (from + i) new) k (omega (arith, s .same)) (omega (arith, s .same, length-drop (from + i) new)) ∙ s .same;
+        is =
+            e
+            ∙ ap₂ (λ (a b : Bytes). (a ++ take k b) ++ drop (i + k) new) (ap (take i) (s .is) ∙ take-at (take i (drop from old)) (drop i old) i moved-length) next-is
+            ∙ ap₂ (λ (a b : Bytes). a ++ b) (sym (take-add i k (drop from old))) (still k);
+      }
+
+  pub shifted-all : (n : ℕ) (next : Bytes) → i ≤ n → from + n ≤ length old → next ≡ paste new i (drop (from + i) new) (n - i)
+      → next ≡ take n (drop from old) ++ drop n old
+  shifted-all n next k m e = let all : i + (n - i) ≡ n = omega arith in rw all at (shifted-more (n - i) next (omega arith) e .is)
 
 -- `leave`: what is held from a place on moves to the front, and the rest is cleared
 pub drop-take : (f n : ℕ) (l : Bytes) → f ≤ n → drop f (take n l) ≡ take (n - f) (drop f l)

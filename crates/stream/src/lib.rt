@@ -192,7 +192,7 @@ pub fn take(s: Stream, store: &mut [u8], out: &mut [u8]) -> Taken
             stream: s,
         };
     }
-    let up = blocks::decode(&store[..z], out);
+    let up = blocks::decode_zero_free(&store[..z], out);
     if leaves(up) {
         let next = leave(s, store, z);
         return Taken {

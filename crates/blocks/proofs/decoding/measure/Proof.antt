@@ -10,8 +10,8 @@ use Rattle.blocks.specs.Blocks.{dec}
 use Rattle.blocks.specs.Steps.{unread, runLength, measured}
 use Rattle.blocks.specs.declared.decoding.Measured.{Measured}
 use Rattle.blocks.specs.declared.decoding.Measured.the-variants.{Length, Bad}
-use Rattle.blocks.proofs.Reading.{bit-set, bit-clear, dec-none, dec-mask, run-closed, run-full, unread-back, unread-all, positive}
-use Rattle.blocks.proofs.Measuring.{sized, sized-measured, count-closed, count-full, count-zero, count-data, count-short, count-done, count-run, count-cut, count-end}
+use Rattle.blocks.proofs.Reading.{dec-none, dec-mask, run-closed, run-full, unread-back, unread-all}
+use Rattle.blocks.proofs.Measuring.{sized, sized-measured, count-closed, count-full, count-turn, count-lack, count-done, count-run, count-cut, count-end}
 use Rattle.blocks.proofs.decoding.measure.Statement.{statement}
 use Rattle.blocks.proofs.decoding.measure.Tie as tie
 
@@ -74,15 +74,7 @@ loop-again c =
     let s = c .before .before .before .before .before .before .before .before .before .args .coding .now in
     let l = c .before .before .loop in
     let v = l .inv .2 in
-    elim (c .if3 .came) [
-      | inl w ↦
-          let e : c .if3 .i ≡ l .i - 1 = w .2 in
-          let p : 0 < l .i = positive _ (w .1 .left) in
-          (omega arith, omega arith, record { good = v .good; within = omega arith; few = omega arith; is = rw e (count-data s (l .i) (l .n) (v .within) (l .k) _ (omega arith) p (bit-clear _ _ (w .0 .taken)) (v .is)) })
-      | inr w ↦
-          let e : c .if3 .i ≡ l .i = w .1 in
-          (omega arith, omega arith, record { good = v .good; within = omega arith; few = omega arith; is = rw e (count-zero s (l .i) (l .n) (v .within) (l .k) _ (omega arith) (bit-set _ _ (w .0 .left)) (v .is)) })
-    ]
+    (omega arith, omega arith, record { good = v .good; within = omega arith; few = omega arith; is = count-turn s (l .i) (l .n) (v .within) (l .k) _ _ (omega arith) refl (v .is) (c .if3 .left) })
 
 -- a run, whichever of its two controls it has: `want` bytes of it are still to come
 record Wanting (coding : Bytes) (i n want : ℕ) : Type 0 where
@@ -90,10 +82,10 @@ record Wanting (coding : Bytes) (i n want : ℕ) : Type 0 where
   few : n + 7 * i + 6 ≤ 7 * length coding
   is : measured (dec (reverse coding) 0 0) ≡ sized n (dec (unread coding i) want 0)
 
-run : (c : tie.Joined5 Inv-loop μ-loop Inv-blocks2 μ-blocks2) →
+run : (c : tie.Joined4 Inv-loop μ-loop Inv-blocks2 μ-blocks2) →
     let s = c .before .before .before .before .before .before .before .before .args .coding .now in
     let b = c .before .before .before .before .before .before .blocks2 in
-    Wanting s (b .i - 1) (c .if5 .n) (c .before .run-length .result)
+    Wanting s (b .i - 1) (c .if4 .n) (c .before .run-length .result)
 run c =
     let s = c .before .before .before .before .before .before .before .before .args .coding .now in
     let b = c .before .before .before .before .before .before .blocks2 in
@@ -101,14 +93,14 @@ run c =
     let e : c .before .run-length .result ≡ runLength x = c .before .run-length .ensures in
     let k = control (c .before .before .before .before) in
     let g : 128 ≤ x = c .before .before .if2 .left in
-    elim (c .if5 .came) [
+    elim (c .if4 .came) [
       | inl w ↦
           let t : x < 255 = w .0 .taken in
-          let n : c .if5 .n ≡ b .n + 1 = w .1 in
+          let n : c .if4 .n ≡ b .n + 1 = w .1 in
           record { small = omega (arith, run-closed x t); few = omega arith; is = rw (n, e) (k ∙ count-closed x (b .n) _ g t) }
       | inr w ↦
           let t : 255 ≤ x = w .0 .left in
-          let n : c .if5 .n ≡ b .n = w .1 in
+          let n : c .if4 .n ≡ b .n = w .1 in
           record { small = omega (arith, run-full x t); few = omega arith; is = rw (n, e) (k ∙ count-full x (b .n) _ t) }
     ]
 
@@ -119,7 +111,7 @@ blocks2-again-2 c =
     let h = run (c .before .before) in
     let l : b .i - 1 ≤ length s = omega (arith, b .inv .within) in
     let m = h .few in
-    record { good = b .inv .good; within = omega arith; few = omega arith; is = count-run s (b .i - 1) _ l _ (c .before .if6 .left) (h .is) }
+    record { good = b .inv .good; within = omega arith; few = omega arith; is = count-run s (b .i - 1) _ l _ (c .before .if5 .left) (h .is) }
 
 -- how the blocks end: by their own test, at a control of zero, inside the seven, inside a run
 abbrev verdict : Bool → ℕ → Measured
@@ -141,12 +133,12 @@ ended c =
           let z : c .blocks2-test .bad ≡ true = w .5 in
           rw z (control (record { before = record { before = c .before; blocks2-test = w .0 }; shared-slice-known2 = w .1 }) ∙ ap (sized (b .n)) (dec-none _ _ (w .2 .taken)))
       | inr (inr (inl w)) ↦
-          let z : c .blocks2-test .bad ≡ true = w .10 in
+          let z : c .blocks2-test .bad ≡ true = w .9 in
           let l = w .4 in
-          rw z (count-short s (l .i) (l .n) (l .inv .2 .within) (l .k) _ (omega arith) (w .7 .taken) (bit-clear _ _ (w .6 .taken)) (l .inv .2 .is))
+          rw z (count-lack s (l .i) (l .n) (l .inv .2 .within) (l .k) _ _ (omega arith) refl (l .inv .2 .is) (w .6 .taken))
       | inr (inr (inr w)) ↦
           let z : c .blocks2-test .bad ≡ true = w .9 in
-          let d : tie.Joined5 Inv-loop μ-loop Inv-blocks2 μ-blocks2 =
+          let d : tie.Joined4 Inv-loop μ-loop Inv-blocks2 μ-blocks2 =
           record {
             before = record {
               before = record {
@@ -155,7 +147,7 @@ ended c =
               };
               run-length = w .4;
             };
-            if5 = w .5;
+            if4 = w .5;
           } in
           rw z (count-cut s (b .i - 1) _ (omega (arith, b .inv .within)) _ (w .6 .taken) (run d .is))
     ]
@@ -176,7 +168,10 @@ measure-spec =
     blocks2-again
     (λ c. omega arith)
     (λ c. omega arith)
-    (λ c. omega (arith, positive (c .before .before .before .loop .i) (c .if4 .left)))
+    (λ c. omega arith)
+    (λ c. omega arith)
+    (λ c. omega arith)
+    (λ c. omega arith)
     (λ c. omega arith)
     (λ c. omega arith)
     loop-again
@@ -185,5 +180,5 @@ measure-spec =
     (λ c. let h = run (c .before .before) in omega (arith, h .few, h .small))
     (λ c. omega arith)
     blocks2-again-2
-    (λ c. rw (c .if7 .taken) at (sym (ended (c .before))))
-    (λ c. rw (c .if7 .left) at (sym (ended (c .before)))))
+    (λ c. rw (c .if6 .taken) at (sym (ended (c .before))))
+    (λ c. rw (c .if6 .left) at (sym (ended (c .before)))))

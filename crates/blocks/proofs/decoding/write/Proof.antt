@@ -8,7 +8,7 @@ use Rattle.answer.specs.Answer.{Bytes}
 use Rattle.blocks.specs.Blocks.{dec, decode}
 use Rattle.blocks.specs.Promises.{given}
 use Rattle.blocks.specs.Steps.{unread, runLength, Below}
-use Rattle.blocks.proofs.Reading.{dec-none, dec-mask, dec-run, dec-full, run-closed, run-full, unread-back, unread-all, at-start}
+use Rattle.blocks.proofs.Reading.{dec-none, dec-mask, dec-run, dec-full, run-closed, run-full, run-least, unread-back, unread-all, at-start}
 use Rattle.blocks.proofs.Below.{below-as, below-to, below-self, below-goal, below-not, below-block, below-pos, below-put, below-start, below-end, below-run, Copied, given-reverse}
 use Rattle.blocks.proofs.decoding.write.Statement.{statement}
 use Rattle.blocks.proofs.decoding.write.Tie as tie
@@ -116,24 +116,25 @@ copied c =
 sub-j-2 : tie.Need-sub-j-2 Inv-loop μ-loop
 sub-j-2 c = omega (arith, below-pos 0 _ (below-as (control (c .before .before)) (dec-run _ _ (c .before .if1 .left) (c .if2 .taken))))
 
-copy-requires : tie.Need-copy-requires Inv-loop μ-loop
-copy-requires c κs =
+copy-run-requires : tie.Need-copy-run-requires Inv-loop μ-loop
+copy-run-requires c κs =
     let k = copied (c .before .before) in
     let r = run (c .before .before .before) in
     let l = c .before .before .before .before .before .before .before .loop in
-    (omega (arith, k .here, l .inv .within), omega (arith, k .room, r .0))
+    let s = c .before .before .before .before .before .before .before .before .before .before .args .coding .now in
+    (omega (arith, k .here, l .inv .within), (omega (arith, k .room, r .0), rw (c .before .before .run-length .ensures) (run-least (getD s (l .i - 1) 0))))
 
 loop-again-2 : tie.Need-loop-again-2 Inv-loop μ-loop
 loop-again-2 c =
     let l = c .before .before .before .before .before .before .before .before .before .before .loop in
     let k = copied (c .before .before .before .before .before) in
     let r = run (c .before .before .before .before .before .before) in
-    let e = c .before .before .copy .kept .1 .1 .1 .0 in
+    let e = c .before .before .copy-run .kept .1 .1 .1 .0 in
     record {
       within = omega (arith, l .inv .within);
       room = omega (arith, e, r .0);
       same = e ∙ r .1;
-      below = rw (c .before .before .copy .ensures) (k .below);
+      below = k .below _ (c .before .before .copy-run .ensures);
     }
 
 pub write-spec : {M : Type 1} → statement M
@@ -154,7 +155,7 @@ write-spec =
     (λ c κs. c .before .if1 .left)
     (λ c. omega (arith, copied c .here))
     (λ c. omega (arith, copied (c .before) .room))
-    copy-requires
+    copy-run-requires
     (λ c. omega arith)
     loop-again-2
     (λ c. c .before .loop .inv .same)

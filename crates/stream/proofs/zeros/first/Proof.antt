@@ -2,7 +2,7 @@ use Prim.Native.Nat.{_-_}
 use native.Mathlib.Numerals.{add-one}
 use native.Mathlib.Omega.{arith}
 use lib.ListN.{length}
-use Rattle.stream.proofs.Marks.{Searched, searched-none, searched-more, searched-found, searched-all}
+use Rattle.stream.proofs.Marks.{Searched, searched-free, searched-more, searched-found, searched-all}
 use Rattle.stream.proofs.zeros.first.Statement.{statement}
 use Rattle.stream.proofs.zeros.first.Tie as tie
 
@@ -18,7 +18,8 @@ first-spec =
     (tie.spec
     Inv-loop
     μ-loop
-    (λ c. searched-none _)
+    (λ c κs. tt)
+    (λ c. searched-free _ _ (c .sixteens .ensures))
     (λ c. omega arith)
     (λ c. searched-found _ _ (omega arith) (c .if1 .taken) (c .before .before .before .loop .inv))
     (λ c. omega arith)
