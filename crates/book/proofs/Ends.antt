@@ -10,7 +10,7 @@ use lib.Seq.{drop-drop, getD-drop}
 use lib.Dec.{eqb}
 use borrow.Author.Tests.{eqb-true}
 use Rattle.parts.specs.Parts.{Bytes, part, span, nextByte}
-use Rattle.parts.proofs.Places.{by-test, at-drop, span-found, span-passed, span-within}
+use Rattle.parts.proofs.Places.{by-test, at-drop, span-none, span-found, span-passed, span-within, nextByte-here, nextByte-later}
 use Rattle.book.specs.Lines.{Line, line, unclosed, lines, longer}
 use Rattle.book.specs.Steps.{lineEnd}
 
@@ -99,3 +99,28 @@ closing (x ∷ xs) b h =
 pub line-closed : (s : Bytes) (at : ℕ) → at ≤ length s → lineEnd s at < length s → getD s (lineEnd s at) 0 ≡ 10
 unfolding nextByte
 line-closed s at h k = sym (getD-drop at s (span (drop at s) 10) 0) ∙ closing (drop at s) 10 (omega (arith, length-drop at s))
+
+-- from a place further on in a line, it ends where it did
+span-on : (xs : Bytes) (b d : ℕ) → d ≤ span xs b → d + span (drop d xs) b ≡ span xs b
+span-on [] b zero h = omega arith
+span-on [] b (suc d) h = absurd (let p = span-none b in let z : ⊥ = omega arith in z)
+span-on (x ∷ xs) b zero h = omega arith
+span-on (x ∷ xs) b (suc d) h =
+    by-test (eqb x b) (λ e. absurd (let p = span-found x xs b e in let z : ⊥ = omega arith in z))
+    (λ e. let p = span-passed x xs b e in let q = span-on xs b d (omega arith) in omega arith)
+
+pub end-on : (s : Bytes) (at d : ℕ) → at + d ≤ lineEnd s at → lineEnd s (at + d) ≡ lineEnd s at
+unfolding nextByte
+end-on s at d h =
+    let p = span-on (drop at s) 10 d (omega arith) in
+    let q : span (drop d (drop at s)) 10 ≡ span (drop (at + d) s) 10 = ap (λ (t : Bytes). span t 10) (drop-drop d at s) in
+    omega arith
+
+-- ---- what `line_end` answers
+
+module _ (s : Bytes) (at i : ℕ) (e : lineEnd s at ≡ lineEnd s i) (h : i < length s) where
+  pub end-here : getD s i 0 ≡ 10 → i ≡ lineEnd s at
+  end-here f = sym (e ∙ nextByte-here s i 10 h f)
+
+  pub end-later : (getD s i 0 ≡ 10 → ⊥) → (j : ℕ) → i + 1 ≡ j → lineEnd s at ≡ lineEnd s j
+  end-later f j p = e ∙ nextByte-later s i 10 h f ∙ ap (lineEnd s) p

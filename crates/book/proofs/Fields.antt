@@ -65,7 +65,7 @@ module _ (s : Bytes) (at : ℕ) (key : Bytes) (stop : ℕ) (e : stop ≡ lineEnd
 
 -- ---- and what it says of the lines
 
-drop-take : (k n : ℕ) (l : Bytes) → drop k (take n l) ≡ take (n - k) (drop k l)
+pub drop-take : (k n : ℕ) (l : Bytes) → drop k (take n l) ≡ take (n - k) (drop k l)
 drop-take zero n l = rw sub-zero
 drop-take (suc k) zero l = take-none (suc k) l
   where

@@ -12,10 +12,11 @@ use Rattle.parts.specs.Parts.{Bytes, part}
 use Rattle.parts.proofs.Places.{by-test}
 use Rattle.book.specs.Lines.{_then_}
 use Rattle.book.specs.Book.{levelled, among, Entry, lookup}
-use Rattle.book.specs.Steps.{lineEnd, entryAt, foundAt}
+use Rattle.book.specs.Steps.{lineEnd, entryAt, TagLine, foundAt}
 use Rattle.book.specs.declared.Found.the-variants.{Absent, At}
 use Rattle.book.specs.declared.entries.Read.{Read}
 use Rattle.book.specs.declared.entries.Read.the-variants as read
+use Rattle.book.proofs.Ends.{end-on}
 use Rattle.book.proofs.Entering.{by-option, no-some, from, from-end, Opened, read-entry, read-bad}
 
 pub record Next (s : Bytes) (at low : ℕ) (es : List Entry) : Type 0 where
@@ -49,6 +50,18 @@ lookup-miss n e es q = rw (ne-eqb n (e .index) q, lookup)
 
 pub same-place : {a b m n : ℕ} {k l : Bool} → a ≡ b → m ≡ n → k ≡ l → At a m k ≡ At b n l
 same-place p q r = cc
+
+-- a tag line and a text line end where they do when read behind their keys
+module _ (s : Bytes) (at : ℕ) (t : TagLine s at) {stop : ℕ} where
+  pub tag-ends : stop ≡ lineEnd s (at + 4) → stop ≡ lineEnd s at
+  tag-ends p = p ∙ end-on s at 4 (t .tag)
+
+  pub text-ends : stop ≡ lineEnd s at → {last : ℕ} → last ≡ lineEnd s (stop + 6) → last ≡ lineEnd s (stop + 1)
+  text-ends p q =
+      let u = t .text in
+      let v : lineEnd s (stop + 1) ≡ lineEnd s (lineEnd s at + 1) = ap (λ (x : ℕ). lineEnd s (x + 1)) p in
+      let r : stop + 6 ≡ stop + 1 + 5 = omega arith in
+      q ∙ ap (lineEnd s) r ∙ end-on s (stop + 1) 5 (omega arith)
 
 -- what `text_of` answers
 pub found-as : (s : Bytes) (at stop last : ℕ) (l : Bool) → stop ≡ lineEnd s at → last ≡ lineEnd s (stop + 1) → l ≡ among (part s (at + 4) stop) levelled

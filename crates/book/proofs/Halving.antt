@@ -1,5 +1,5 @@
 -- `find`, turn by turn. Assumes nothing.
-use Prim.Native.Nat.{ℕ, suc, _+_, _-_, _/_, _<_, _≤_}
+use Prim.Native.Nat.{ℕ, suc, _+_, _-_, _<_, _≤_}
 use mathlib.Core.Path.{_≡_, refl, sym, ap, _∙_, subst}
 use mathlib.Core.Option.{some}
 use mathlib.Core.List.{List, [], _∷_}
@@ -72,7 +72,8 @@ pub record Hit (s : Bytes) (n stop : ℕ) (es : List Entry) : Type 0 where
   pub found : foundAt s (stop + 1) ≡ lookup n es
 
 -- the entry has a smaller one: what is looked up among these entries is among those that follow its first line
-pub record Missed (s : Bytes) (n q stop : ℕ) (es : List Entry) : Type 0 where
+pub record Missed (s : Bytes) (n q k stop : ℕ) (es : List Entry) : Type 0 where
+  pub smaller : k < n
   pub more : List Entry
   pub reads : from s (entryAfter s stop) 0 ≡ some more
   pub passes : lookup n es ≡ lookup n more
@@ -81,9 +82,9 @@ pub record Missed (s : Bytes) (n q stop : ℕ) (es : List Entry) : Type 0 where
 
 module _ (s : Bytes) (n q hi : ℕ) (es : List Entry) (w : Reached s es 0 q) where
   abbrev SideSays : Side → Type 0
-  SideSays side.Above = lookup n (w .rest) ≡ Absent
+  SideSays (side.Above k) = lookup n (w .rest) ≡ Absent
   SideSays (side.Here stop) = Hit s n stop es
-  SideSays (side.Below stop) = Missed s n q stop es
+  SideSays (side.Below k stop) = Missed s n q k stop es
 
   says-as : (at : ℕ) → entryBetween s q hi ≡ at → (r : Number) → numberAt s (at + 6) 65535 ≡ r → {x : Side} → sided n r ≡ x → SideSays x → SideSays (sideOf s q hi n)
   unfolding sideOf
@@ -94,13 +95,14 @@ module _ (s : Bytes) (n q hi : ℕ) (es : List Entry) (w : Reached s es 0 q) whe
       hit : n ≡ x .entry .index → Hit s n (x .opened .one) es
       hit e = let o = x .opened .rises in record { line = tag-line s n x; found = found s n x e ∙ sym (w .passes n (omega arith)) }
 
-      missed : x .entry .index < n → Missed s n q (x .opened .one) es
+      missed : x .entry .index < n → Missed s n q (x .entry .index) (x .opened .one) es
       missed e =
           let o = x .opened .rises in
           let i = x .opened .inside in
           let r = x .opened .order in
           let p = after-within s q (omega arith) in
           record {
+            smaller = e;
             more = x .more;
             reads = from-any s (entryAfter s (x .opened .one)) (x .entry .index + 1) (behind-index s x);
             passes = w .passes n (omega arith) ∙ ap (lookup n) (x .these) ∙ lookup-miss n (x .entry) (x .more) (λ z. omega arith);
@@ -167,9 +169,6 @@ halved-end s n lo hi a h =
     in
     sym (a .left ∙ ap (lookup n) (sym z) ∙ x)
 
-pub middle : (lo hi : ℕ) → lo < hi → (lo ≤ lo + (hi - lo) / 2) × (lo + (hi - lo) / 2 < hi)
-middle lo hi h = (omega arith, omega arith)
-
 -- what the side of the entry behind a place between says
 module _ (s : Bytes) (n lo hi : ℕ) (a : Halved s n lo hi) {q : ℕ} {r : Side} (e : r ≡ sideOf s q hi n) (m : (lo ≤ q) × (q < hi)) where
   before-end : q < length s
@@ -191,7 +190,7 @@ module _ (s : Bytes) (n lo hi : ℕ) (a : Halved s n lo hi) {q : ℕ} {r : Side}
   says : {x : Side} → r ≡ x → SideSays s n q hi (a .es) between x
   says f = subst (SideSays s n q hi (a .es) between) (sym e ∙ f) (side-says s n q hi (a .es) between before-end far)
 
-  pub halved-above : r ≡ side.Above → Halved s n lo q
+  pub halved-above : {k : ℕ} → r ≡ side.Above k → Halved s n lo q
   halved-above f =
       let i = before-end in
       record {
@@ -205,11 +204,11 @@ module _ (s : Bytes) (n lo hi : ℕ) (a : Halved s n lo hi) {q : ℕ} {r : Side}
         none = says f;
       }
 
-  module _ {stop : ℕ} where
-    pub is-below : r ≡ side.Below stop → Missed s n q stop (a .es)
+  module _ {k stop : ℕ} where
+    pub is-below : r ≡ side.Below k stop → Missed s n q k stop (a .es)
     is-below f = says f
 
-    pub halved-below : r ≡ side.Below stop → Halved s n stop hi
+    pub halved-below : r ≡ side.Below k stop → Halved s n stop hi
     halved-below f =
         let x = is-below f in
         record {
@@ -223,6 +222,7 @@ module _ (s : Bytes) (n lo hi : ℕ) (a : Halved s n lo hi) {q : ℕ} {r : Side}
           none = a .none;
         }
 
+  module _ {stop : ℕ} where
     pub is-here : r ≡ side.Here stop → TagLine s (stop + 1)
     is-here f = let x : Hit s n stop (a .es) = says f in x .line
 

@@ -3,7 +3,7 @@ use Prim.Native.Nat.{ℕ, _+_, _-_, _<_, _≤_}
 use mathlib.Core.Path.{_≡_, refl, sym, ap, _∙_}
 use mathlib.Core.Bool.{Bool, true, false}
 use mathlib.Core.Option.{Option, none, some}
-use mathlib.Core.List.{List, _∷_}
+use mathlib.Core.List.{List, [], _∷_}
 use native.Mathlib.Omega.{arith}
 use lib.ListN.{length, take, drop}
 use lib.Dec.{eqb}
@@ -86,6 +86,18 @@ module _ (t n : Bytes) (ns : List Bytes) where
   among-later : same t n ≡ false → among t (n ∷ ns) ≡ among t ns
   unfolding among
   among-later e = rw (e, among)
+
+  -- names compared one after the other
+  module _ {a : Bool} (e : a ≡ same t n) where
+    pub one-found : a ≡ true → true ≡ among t (n ∷ ns)
+    one-found f = sym (among-here (sym e ∙ f))
+
+    pub one-passed : a ≡ false → {r : Bool} → r ≡ among t ns → r ≡ among t (n ∷ ns)
+    one-passed f g = g ∙ sym (among-later (sym e ∙ f))
+
+pub one-left : (t n : Bytes) {a : Bool} → a ≡ same t n → a ≡ among t (n ∷ [])
+unfolding among
+one-left t n e = e ∙ by-test (same t n) (λ f. f ∙ sym (among-here t n [] f)) (λ f. f ∙ sym (among-later t n [] f))
 
 -- the search of a name in a packed table, from one of its names on, which ends at the place e
 module _ (t names : Bytes) (from : ℕ) (a : Bool) (so : a ≡ among t (words (drop from names))) where

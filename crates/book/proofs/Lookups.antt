@@ -73,13 +73,13 @@ module _ (s : Bytes) (n : ℕ) {at low : ℕ} {es : List Entry} (x : Next s at l
 -- ---- how an index lies to it
 
 module _ (n k stop : ℕ) where
-  pub sided-above : n < k → sided n (Num k stop) ≡ side.Above
+  pub sided-above : n < k → sided n (Num k stop) ≡ side.Above k
   sided-above h = rw (lt-ltb n k h, sided)
 
   pub sided-here : n ≡ k → sided n (Num k stop) ≡ side.Here stop
   sided-here h = rw (le-ltb n k (omega arith), eq-eqb n k h, sided)
 
-  pub sided-below : k < n → sided n (Num k stop) ≡ side.Below stop
+  pub sided-below : k < n → sided n (Num k stop) ≡ side.Below k stop
   sided-below h = rw (le-ltb n k (omega arith), ne-eqb n k (λ z. omega arith), sided)
 
 -- what `side_of` answers
@@ -88,15 +88,15 @@ module _ (s : Bytes) (at bound n : ℕ) {start : ℕ} (e : start ≡ entryBetwee
   unfolding sideOf
   side-as g = ap (λ (y : ℕ). sided n (numberAt s (y + 6) 65535)) (sym e) ∙ ap (sided n) (sym f ∙ g)
 
-  pub side-none : r ≡ NoNum → side.Above ≡ sideOf s at bound n
+  pub side-none : r ≡ NoNum → side.Above 0 ≡ sideOf s at bound n
   side-none g = sym (side-as g)
 
   module _ {k stop : ℕ} (g : r ≡ Num k stop) where
-    pub side-above : n < k → side.Above ≡ sideOf s at bound n
+    pub side-above : n < k → side.Above k ≡ sideOf s at bound n
     side-above h = sym (side-as g ∙ sided-above n k stop h)
 
     pub side-here : n ≡ k → side.Here stop ≡ sideOf s at bound n
     side-here h = sym (side-as g ∙ sided-here n k stop h)
 
-    pub side-below : k ≤ n → (n ≡ k → ⊥) → side.Below stop ≡ sideOf s at bound n
+    pub side-below : k ≤ n → (n ≡ k → ⊥) → side.Below k stop ≡ sideOf s at bound n
     side-below h j = sym (side-as g ∙ sided-below n k stop (omega (arith, j)))

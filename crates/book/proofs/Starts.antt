@@ -5,8 +5,8 @@ use mathlib.Core.Bool.{Bool, true, false, _&&_}
 use mathlib.Core.Option.{Option, some}
 use mathlib.Core.List.{List, [], _∷_}
 use native.Mathlib.Omega.{arith}
-use lib.ListN.{length, drop, getD, length-drop, drop-of-length-le}
-use lib.Seq.{drop-drop, getD-drop}
+use lib.ListN.{length, take, drop, getD, length-drop, drop-of-length-le}
+use lib.Seq.{length-take-le, take-nil, drop-drop, getD-take, getD-drop}
 use lib.Dec.{eqb, leb, ltb}
 use borrow.Author.Tests.{eq-eqb, ne-eqb, le-leb, lt-leb, leb-true, leb-false, ltb-true, ltb-false}
 use Rattle.parts.specs.Parts.{Bytes, byte, span, nextByte}
@@ -14,7 +14,8 @@ use Rattle.parts.proofs.Places.{by-test, at-drop, byte-past, span-found, span-p
 use Rattle.book.specs.Lines.{Part}
 use Rattle.book.specs.Book.{Entry}
 use Rattle.book.specs.Steps.{lineEnd, startsAfter, untilEntry, entryAfter, entryBetween}
-use Rattle.book.proofs.Ends.{line-closed}
+use Rattle.book.proofs.Ends.{end-within, line-closed}
+use Rattle.book.proofs.Fields.{drop-take}
 use Rattle.book.proofs.Entering.{and-false, from}
 use Rattle.book.proofs.Tops.{Topped}
 use Rattle.book.proofs.Following.{Next, next-entry}
@@ -27,17 +28,6 @@ module _ (s : Bytes) (at : ℕ) where
   starts-no-line : eqb (byte s at) 10 ≡ false → startsAfter s at ≡ false
   unfolding startsAfter
   starts-no-line e = rw (e, startsAfter)
-
-  starts-line : eqb (byte s at) 10 ≡ true → startsAfter s at ≡ eqb (byte s (at + 1)) 105
-  unfolding startsAfter
-  starts-line e = rw (e, startsAfter)
-
-  -- what `starts_after` answers
-  pub starts-off : {b : ℕ} → b ≡ byte s at → (b ≡ 10 → ⊥) → false ≡ startsAfter s at
-  starts-off p h = sym (starts-no-line (ne-eqb (byte s at) 10 (λ z. h (p ∙ z))))
-
-  pub starts-as : {b c : ℕ} → b ≡ byte s at → b ≡ 10 → c ≡ byte s (at + 1) → eqb c 105 ≡ startsAfter s at
-  starts-as p h q = ap (λ (k : ℕ). eqb k 105) q ∙ sym (starts-line (eq-eqb (byte s at) 10 (sym p ∙ h)))
 
   starts-no-entry : (byte s (at + 1) ≡ 105 → ⊥) → startsAfter s at ≡ false
   unfolding startsAfter
@@ -82,6 +72,15 @@ until-line (x ∷ xs) =
     by-test (eqb x 10) (λ e. rw (span-found x xs 10 e) (omega arith))
     (λ e. let p = until-line xs in rw (span-passed x xs 10 e) (until-other x xs e ∙ ap suc p ∙ omega arith))
 
+-- nor before the end of the first part of it
+until-cut : (xs : Bytes) (k : ℕ) → untilEntry xs ≡ span (take k xs) 10 + untilEntry (drop (span (take k xs) 10) xs)
+unfolding span untilEntry
+until-cut [] k = rw (take-nil k) refl
+until-cut (x ∷ xs) zero = omega arith
+until-cut (x ∷ xs) (suc k) =
+    by-test (eqb x 10) (λ e. rw (span-found x (take k xs) 10 e) (omega arith))
+    (λ e. let p = until-cut xs k in rw (span-passed x (take k xs) 10 e) (until-other x xs e ∙ ap suc p ∙ omega arith))
+
 -- up to where it starts, the entry that follows is the same
 until-same : (xs : Bytes) (d : ℕ) → d < untilEntry xs → d + untilEntry (drop d xs) ≡ untilEntry xs
 until-same [] d h = absurd (let p = until-none in let z : ⊥ = omega arith in z)
@@ -105,6 +104,18 @@ module _ (s : Bytes) (at : ℕ) where
   after-line =
       let n = span (drop at s) 10 in
       let p : untilEntry (drop at s) ≡ n + untilEntry (drop (at + n) s) = until-line (drop at s) ∙ ap (λ (t : Bytes). n + untilEntry t) (drop-drop n at s) in
+      omega arith
+
+  -- the same, where the book is looked at up to a bound
+  after-cut : (bound : ℕ) → entryAfter s at ≡ entryAfter s (lineEnd (take bound s) at)
+  unfolding entryAfter nextByte
+  after-cut bound =
+      let n = span (drop at (take bound s)) 10 in
+      let p : untilEntry (drop at s) ≡ n + untilEntry (drop (at + n) s) =
+      until-cut (drop at s) (bound - at)
+      ∙ ap (λ (t : Bytes). span t 10 + untilEntry (drop (span t 10) (drop at s))) (sym (drop-take at bound s))
+      ∙ ap (λ (t : Bytes). n + untilEntry t) (drop-drop n at s)
+      in
       omega arith
 
   pub after-same : (q : ℕ) → at ≤ q → q < entryAfter s at → entryAfter s q ≡ entryAfter s at
@@ -206,17 +217,44 @@ module _ (s : Bytes) (at bound : ℕ) where
       (λ b. omega (arith, between-is (leb-true _ _ b), after-within s at h))
       (λ b. omega (arith, between-none (leb-false _ _ b)))
 
-  -- the same entry follows the place that is looked at
-  module _ (k : bound ≤ length s) (i : ℕ) (p : entryAfter s at ≡ entryAfter s i) where
-    pub turn-ends : bound ≡ i → length s ≡ entryBetween s at bound
-    turn-ends e =
-        by-test (ltb bound (length s))
-        (λ b. let l = after-more s i (omega (arith, ltb-true bound (length s) b)) in sym (between-none (omega arith)))
-        (λ b. let l = ltb-false bound (length s) b in let q = after-past s i (omega arith) in let z : entryAfter s at ≡ length s = omega arith in sym (between-is (omega arith) ∙ z))
+-- the line's end that is looked at, or the bound: the entry that follows the place follows it too
+pub record Ended (s : Bytes) (at bound i : ℕ) : Type 0 where
+  pub within : i ≤ bound
+  pub ten : i < bound → byte s i ≡ 10
+  pub same : entryAfter s at ≡ entryAfter s i
 
-    module _ (h : i < bound) {b : Bool} (e : b ≡ startsAfter s i) where
-      pub turn-finds : b ≡ true → i + 1 ≡ entryBetween s at bound
-      turn-finds f = let q = after-here s i (omega arith) (sym e ∙ f) in sym (between-is (omega arith) ∙ p ∙ q)
+pub ended-first : (s : Bytes) (at bound : ℕ) {i : ℕ} → bound ≤ length s → at ≤ bound → i ≡ lineEnd (take bound s) at → Ended s at bound i
+unfolding byte
+ended-first s at bound k h e =
+    let l = length-take-le bound s k in
+    let p = end-within (take bound s) at (omega arith) in
+    record {
+      within = omega arith;
+      ten = λ j. ap (λ (x : ℕ). getD s x 0) e
+          ∙ sym (getD-take bound s (lineEnd (take bound s) at) 0 (omega arith))
+          ∙ line-closed (take bound s) at (omega arith) (omega arith);
+      same = after-cut s at bound ∙ ap (entryAfter s) (sym e);
+    }
 
-      pub turn-goes-on : b ≡ false → entryAfter s at ≡ entryAfter s (i + 1)
-      turn-goes-on f = p ∙ after-later s i (omega arith) (sym e ∙ f)
+module _ (s : Bytes) (at bound : ℕ) (k : bound ≤ length s) {i : ℕ} (a : Ended s at bound i) where
+  pub ended-none : bound ≤ i → length s ≡ entryBetween s at bound
+  ended-none h =
+      let w = a .within in
+      let p = a .same in
+      by-test (leb (entryAfter s at) bound)
+      (λ b. let l = leb-true _ _ b in
+      by-test (ltb i (length s)) (λ c. let q = after-more s i (ltb-true _ _ c) in absurd (let z : ⊥ = omega arith in z))
+      (λ c. let m = ltb-false i (length s) c in let q = after-past s i m in let z : entryAfter s at ≡ length s = omega arith in sym (between-is s at bound l ∙ z)))
+      (λ b. sym (between-none s at bound (leb-false _ _ b)))
+
+  module _ (h : i < bound) {b : ℕ} (e : b ≡ byte s (i + 1)) where
+    pub ended-finds : b ≡ 105 → i + 1 ≡ entryBetween s at bound
+    ended-finds f =
+        let q = after-here s i (omega arith) (starts-true s i (a .ten h) (sym e ∙ f)) in
+        let p = a .same in
+        sym (between-is s at bound (omega arith) ∙ p ∙ q)
+
+    pub ended-next : (b ≡ 105 → ⊥) → {j : ℕ} → j ≡ lineEnd (take bound s) (i + 1) → Ended s at bound j
+    ended-next f g =
+        let n = ended-first s (i + 1) bound k (omega arith) g in
+        record { within = n .within; ten = n .ten; same = a .same ∙ after-not s i (omega arith) (λ z. f (e ∙ z)) ∙ n .same }

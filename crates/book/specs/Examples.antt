@@ -30,7 +30,7 @@ own-after : map (entryAfter own) (0 ∷ 26 ∷ 27 ∷ []) ≡ 27 ∷ 27 ∷ 64 �
 unfolding own entryAfter untilEntry startsAfter byte
 own-after = refl
 
-own-side : map (sideOf own 20 64) (6 ∷ 7 ∷ 8 ∷ []) ≡ side.Above ∷ side.Here 34 ∷ side.Below 34 ∷ []
+own-side : map (sideOf own 20 64) (6 ∷ 7 ∷ 8 ∷ []) ≡ side.Above 7 ∷ side.Here 34 ∷ side.Below 7 34 ∷ []
 unfolding own sideOf entryBetween entryAfter untilEntry startsAfter numberAt digits digitOf byte
 own-side = refl
 

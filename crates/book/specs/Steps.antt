@@ -110,10 +110,10 @@ entryAfter s at = at + untilEntry (drop at s)
 unfoldable pub entryBetween : Bytes → ℕ → ℕ → ℕ
 entryBetween s at bound = elim (leb (entryAfter s at) bound) [ true ↦ entryAfter s at | false ↦ length s ]
 
--- how that entry lies to the index n
+-- how that entry lies to the index n; no entry lies as one above does
 abbrev pub sided : ℕ → Number → Side
-sided n NoNum = side.Above
-sided n (Num k stop) = elim (ltb n k) [ true ↦ side.Above | false ↦ elim (eqb n k) [ true ↦ side.Here stop | false ↦ side.Below stop ] ]
+sided n NoNum = side.Above 0
+sided n (Num k stop) = elim (ltb n k) [ true ↦ side.Above k | false ↦ elim (eqb n k) [ true ↦ side.Here stop | false ↦ side.Below k stop ] ]
 
 unfoldable pub sideOf : Bytes → ℕ → ℕ → ℕ → Side
 sideOf s at bound n = sided n (numberAt s (entryBetween s at bound + 6) 65535)

@@ -68,7 +68,19 @@ fn is_among(t: &[u8], names: &[u8]) -> bool
 pub fn carries_level(tag: &[u8]) -> bool
     ensures { λ r. ⌜ r ≡ among (now (tag .entry)) levelled ⌝ }
 {
-    is_among(tag, b"trace debug info warn error")
+    if parts::same(tag, b"trace") {
+        return true;
+    }
+    if parts::same(tag, b"debug") {
+        return true;
+    }
+    if parts::same(tag, b"info") {
+        return true;
+    }
+    if parts::same(tag, b"warn") {
+        return true;
+    }
+    parts::same(tag, b"error")
 }
 
 fn is_tag(tag: &[u8]) -> bool

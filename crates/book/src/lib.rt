@@ -2,6 +2,7 @@
 // other calls read a book that was checked, and judge nothing again. A text is given by its place in the book.
 mod bars;
 mod entries;
+mod guess;
 mod lines;
 mod sides;
 
@@ -15,6 +16,10 @@ use entries::Read;
 use entries::carries_level;
 use entries::entry_at;
 use entries::heading;
+use guess::ahead;
+use guess::past;
+use guess::place;
+use lines::line_end;
 use lines::next_line;
 use sides::Side;
 use sides::side_of;
@@ -72,18 +77,33 @@ pub fn clock_of(book: &[u8]) -> Clock
 }
 
 // Inner: the entry with an index, in a checked book. If it is there, it follows a line's end from `from` on and before `bound`; indexes
-// rise, so the entry that follows the middle tells which half is left.
+// rise, so the entry that follows a place between tells which side is left. The place is guessed from what the last turn saw: so many
+// `bytes` took so many `steps` of indexes, and those left begin at `least`. At first an index is taken to have 40 bytes.
 pub fn find(book: &[u8], index: usize) -> Found
     requires { ⌜ checked (now book) ≡ Ok ⌝ }
     ensures { λ r. ⌜ r ≡ find (now (book .entry)) index ⌝ }
 {
     let mut from = 0;
     let mut bound = book.len();
+    let mut least = 0;
+    let mut bytes = 40;
+    let mut steps = 1;
+    let mut turn = 0;
     while from < bound {
-        let middle = from + (bound - from) / 2;
-        match side_of(book, middle, bound, index) {
-            Side::Above => bound = middle,
-            Side::Below(stop) => from = stop,
+        let at = place(from, bound, ahead(index - least, bytes, steps, turn));
+        turn = (turn + 1) % 4;
+        match side_of(book, at, bound, index) {
+            Side::Above(n) => {
+                bytes = at - from;
+                steps = past(least, n);
+                bound = at;
+            }
+            Side::Below(n, stop) => {
+                bytes = stop - from;
+                steps = past(least, n + 1);
+                from = stop;
+                least = n + 1;
+            }
             Side::Here(stop) => return text_of(book, stop + 1),
         }
     }
@@ -95,8 +115,8 @@ fn text_of(book: &[u8], at: usize) -> Found
     requires { ⌜ TagLine (now book) at ⌝ }
     ensures { λ r. ⌜ r ≡ foundAt (now (book .entry)) at ⌝ }
 {
-    let stop = parts::next_byte(book, at, 10);
+    let stop = line_end(book, at + 4);
     let start = stop + 6;
     let level = carries_level(&book[at + 4..stop]);
-    Found::At(start, parts::next_byte(book, stop + 1, 10) - start, level)
+    Found::At(start, line_end(book, start) - start, level)
 }

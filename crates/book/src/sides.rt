@@ -1,26 +1,17 @@
 // The entry that follows a place of a checked book, and how it lies to an index.
+use crate::lines::line_end;
 use parts::Number;
 ghost use mathlib.Core.Path.{_≡_};
-ghost use Prim.Native.Nat.{_<_, _≤_};
+ghost use Prim.Native.Nat.{_≤_};
 ghost use lib.ListN.{length};
-ghost use Rattle.book.specs.Steps.{startsAfter, entryBetween, sideOf};
+ghost use Rattle.book.specs.Steps.{entryBetween, sideOf};
 
-// Below an index, or the very one, and where the entry's first line ends; above it, or no entry.
+// Below an index: the entry's own, and where its first line ends. The very one: where that line ends. Above it: the entry's own index.
+// No entry lies as one above does, with 0.
 pub enum Side {
-    Below(usize),
+    Below(usize, usize),
     Here(usize),
-    Above,
-}
-
-// Does a line end at a place, and an entry follow it?
-fn starts_after(book: &[u8], at: usize) -> bool
-    requires { ⌜ at < length (now book) ⌝ }
-    ensures { λ r. ⌜ r ≡ startsAfter (now (book .entry)) at ⌝ }
-{
-    if parts::byte_at(book, at) != 10 {
-        return false;
-    }
-    parts::byte_at(book, at + 1) == b'i'
+    Above(usize),
 }
 
 // Where the first entry starts that follows a line's end at or behind a place and before a bound; the end where there is none.
@@ -28,12 +19,13 @@ fn entry_between(book: &[u8], at: usize, bound: usize) -> usize
     requires { ⌜ (at ≤ bound) × (bound ≤ length (now book)) ⌝ }
     ensures { λ r. ⌜ r ≡ entryBetween (now (book .entry)) at bound ⌝ }
 {
-    let mut i = at;
+    let before = &book[..bound];
+    let mut i = line_end(before, at);
     while i < bound {
-        if starts_after(book, i) {
+        if parts::byte_at(book, i + 1) == b'i' {
             return i + 1;
         }
-        i += 1;
+        i = line_end(before, i + 1);
     }
     book.len()
 }
@@ -45,13 +37,13 @@ pub fn side_of(book: &[u8], at: usize, bound: usize, index: usize) -> Side
 {
     let Number::Num(n, stop) = parts::number_at(book, entry_between(book, at, bound) + 6, 65535)
     else {
-        return Side::Above;
+        return Side::Above(0);
     };
     if index < n {
-        return Side::Above;
+        return Side::Above(n);
     }
     if index == n {
         return Side::Here(stop);
     }
-    Side::Below(stop)
+    Side::Below(n, stop)
 }

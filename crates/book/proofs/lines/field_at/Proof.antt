@@ -10,11 +10,11 @@ field-at-spec =
     tie.close
     (tie.spec
     (λ c κs. search needs)
-    (λ c. read-open _ _ _ _ (c .before .next-byte .ensures) (omega arith))
+    (λ c. read-open _ _ _ _ (c .before .line-end .ensures) (omega arith))
     (λ c. let p = end-within (c .before .before .before .before .args .book .now) (c .before .before .before .before .args .at) (c .before .before .before .before .pre) in omega arith)
     (λ c. let p = end-within (c .before .before .before .before .args .book .now) (c .before .before .before .before .args .at) (c .before .before .before .before .pre) in omega arith)
     (λ c. search needs)
     (λ c κs. search needs)
-    (λ c. let p = read-fits _ _ (c .before .before .before .before .before .before .before .args .key .now) _ (c .before .before .before .before .next-byte .ensures) (omega arith) _ (c .before .begins-at .ensures) (c .before .before .before .before .before .before .before .pre) (c .if2 .taken) in omega arith)
-    (λ c. read-there _ _ _ _ (c .before .before .before .before .next-byte .ensures) (omega arith) _ (c .before .begins-at .ensures) (c .if2 .taken))
-    (λ c. read-off _ _ _ _ (c .before .before .before .before .next-byte .ensures) (omega arith) _ (c .before .begins-at .ensures) (c .if2 .left)))
+    (λ c. let p = read-fits _ _ (c .before .before .before .before .before .before .before .args .key .now) _ (c .before .before .before .before .line-end .ensures) (omega arith) _ (c .before .begins-at .ensures) (c .before .before .before .before .before .before .before .pre) (c .if2 .taken) in omega arith)
+    (λ c. read-there _ _ _ _ (c .before .before .before .before .line-end .ensures) (omega arith) _ (c .before .begins-at .ensures) (c .if2 .taken))
+    (λ c. read-off _ _ _ _ (c .before .before .before .before .line-end .ensures) (omega arith) _ (c .before .begins-at .ensures) (c .if2 .left)))
