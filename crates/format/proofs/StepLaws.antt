@@ -1,20 +1,20 @@
 -- A scan, fragment by fragment: one law for each return of src/sift.rt, and what the loop of `scan` keeps. Assumes nothing.
 use Prim.Native.Nat.{ℕ, suc, _+_, _-_, _<_, _≤_}
 use mathlib.Core.Path.{_≡_, refl, sym, ap, ap₂, _∙_, subst}
-use mathlib.Core.Bool.{Bool, true, false}
+use mathlib.Core.Bool.{Bool, true, false, false≢true}
 use mathlib.Core.Option.{Option, none, some}
 use mathlib.Core.List.{List, [], _∷_, _++_, append-assoc, append-nil}
 use native.Mathlib.Numerals.{add-one}
 use native.Mathlib.Omega.{arith}
 use lib.ListN.{length, set, take, drop, replicate, length-append, length-drop, length-replicate, replicate-append-replicate}
 use lib.Seq.{take-append-seam, drop-append-add, take-suc-set, drop-set-lt, length-take-le}
-use lib.Dec.{ltb}
-use borrow.Author.Tests.{le-leb, lt-leb, lt-ltb, le-ltb, ltb-true, ltb-false}
+use lib.Dec.{ltb, eqb}
+use borrow.Author.Tests.{le-leb, lt-leb, lt-ltb, le-ltb, ltb-true, ltb-false, eqb-true, eq-eqb}
 use Rattle.parts.specs.Parts.{Bytes, part}
-use Rattle.parts.proofs.Places.{never}
+use Rattle.parts.proofs.Places.{by-test, never}
 use Rattle.format.specs.Grammar.{counterAfter, nextAt}
 use Rattle.format.specs.Pieces.{Piece, literal, shown, consed, piecesFrom, pieces}
-use Rattle.format.specs.Params.{asked, gather, inOrder, complete, prepared, scanOf, blank, padded, scannedOf}
+use Rattle.format.specs.Params.{asked, addTo, gather, inOrder, complete, prepared, scanOf, blank, padded, scannedOf}
 use Rattle.format.specs.Steps.{Kept, Left, Fits, front, Few, Filled, tookOf, strideOf, judged}
 use Rattle.format.specs.declared.hints.Hint.{Hint}
 use Rattle.format.specs.declared.fragments.Param.{Param}
@@ -167,6 +167,44 @@ module _ (items : List Param) (n : ℕ) (filled : items ≡ padded (take n items
     finished-is (Count k) a = judges (some (take k after)) (a .are ∙ ap some (sym (in-front k a)))
     finished-is Clash a = judges none a
 
+-- ---- parameters that stand in order already
+
+-- a parameter behind all others, whose positions are k, k + 1 and so on
+added-last : (ys : List Param) (k : ℕ) (p : Param) → inOrder ys k ≡ true → k + length ys ≤ p .position → addTo ys p ≡ some (ys ++ (p ∷ []))
+unfolding addTo inOrder
+added-last [] k p o h = refl
+added-last (y ∷ ys) k p o h =
+    by-test (eqb (y .position) k)
+    (λ e.
+    let l : y .position < p .position = omega (arith, eqb-true (y .position) k e) in
+    rw (lt-ltb (y .position) (p .position) l, addTo) (ap (consed y) (added-last ys (k + 1) p (sym (rw (e, inOrder)) ∙ o) (omega arith))))
+    (λ e. absurd (false≢true (sym (rw (e, inOrder)) ∙ o)))
+
+in-order-more : (ys : List Param) (k : ℕ) (p : Param) → inOrder ys k ≡ true → p .position ≡ k + length ys → inOrder (ys ++ (p ∷ [])) k ≡ true
+unfolding inOrder
+in-order-more [] k p o h = rw (eq-eqb (p .position) k (omega arith), inOrder)
+in-order-more (y ∷ ys) k p o h =
+    by-test (eqb (y .position) k)
+    (λ e. rw (e, inOrder) (in-order-more ys (k + 1) p (sym (rw (e, inOrder)) ∙ o) (omega arith)))
+    (λ e. absurd (false≢true (sym (rw (e, inOrder)) ∙ o)))
+
+gathered-in-order : (ps acc : List Param) → inOrder acc 0 ≡ true → inOrder ps (length acc) ≡ true → gather ps acc ≡ some (acc ++ ps)
+unfolding gather inOrder
+gathered-in-order [] acc a o = ap some (sym (append-nil acc))
+gathered-in-order (p ∷ ps) acc a o =
+    by-test (eqb (p .position) (length acc))
+    (λ e.
+    let h = eqb-true (p .position) (length acc) e in
+    let n : length acc + 1 ≡ length (acc ++ (p ∷ [])) = simp length-append (omega arith) in
+    rw (added-last acc 0 p a (omega arith), gather)
+    (gathered-in-order ps (acc ++ (p ∷ [])) (in-order-more acc 0 p a (omega arith)) (ap (inOrder ps) (sym n) ∙ sym (rw (e, inOrder)) ∙ o)
+    ∙ ap some (append-assoc acc (p ∷ []) ps)))
+    (λ e. absurd (false≢true (sym (rw (e, inOrder)) ∙ o)))
+
+prepared-in-order : (ps : List Param) → length ps ≤ 32 → inOrder ps 0 ≡ true → prepared ps ≡ some ps
+unfolding prepared inOrder
+prepared-in-order ps l o = rw (le-leb (length ps) 32 l, gathered-in-order ps [] refl o, o, prepared, complete)
+
 -- ---- what the loop of `scan` keeps
 
 pub record Going (s : Bytes) (items : List Param) (t : Sifted) : Type 0 where
@@ -205,6 +243,13 @@ module _ (s : Bytes) (items : List Param) (t : Sifted) (g : Going s items t) whe
 
   pub going-ends : length s ≤ t .at → (r : Scanned) → r ≡ scannedOf (prepared front-items) → r ≡ scannedOf (scanOf s)
   going-ends l r e = e ∙ ap scannedOf (sym none-left ∙ ap (judged front-items) (sym (pieces-past s (t .at) (t .counter) l)) ∙ g .so)
+
+  pub going-in-order : length s ≤ t .at → inOrder front-items 0 ≡ true → record { items = items; count = t .written; bad = false } ≡ scannedOf (scanOf s)
+  going-in-order l o =
+      let k : record { items = items; count = t .written; bad = false } ≡ scannedOf (some front-items)
+      = ap₂ (λ (z : List Param) (j : ℕ). record { items = z; count = j; bad = false }) (g .filled .filled) (sym count) in
+      going-ends l (record { items = items; count = t .written; bad = false })
+      (k ∙ ap scannedOf (sym (prepared-in-order front-items (omega (arith, count, g .filled .few)) o)))
 
   -- ---- literal bytes
 

@@ -18,6 +18,7 @@ pub use hints::Clock;
 pub use hints::Hint;
 pub use params::Scanned;
 use params::blanks;
+use params::in_order;
 use params::refused;
 use parts::byte_at;
 use sift::Sifted;
@@ -88,5 +89,14 @@ pub fn scan(text: &[u8]) -> Scanned
             Stride::Bad => return refused(),
         }
     }
-    finished(items, t.written)
+    let n = t.written;
+    // As most texts have them: nothing to sort, and nothing to copy.
+    if in_order(items, n) {
+        return Scanned {
+            items,
+            count: n,
+            bad: false,
+        };
+    }
+    finished(items, n)
 }

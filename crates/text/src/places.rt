@@ -79,7 +79,11 @@ pub fn shown_text(book: &[u8], rows: &[u64], row: usize, seen: Kind) -> Place
 pub fn is_whole(seen: Kind, kind: u64) -> bool
     ensures { λ r. ⌜ r ≡ (isItem seen && eqb kind 8) ⌝ }
 {
-    if is_item(seen) { kind == kinds::FORMAT } else { false }
+    if is_item(seen) {
+        kind == kinds::FORMAT
+    } else {
+        false
+    }
 }
 
 // Is the text of an element that of a byte?

@@ -1,9 +1,9 @@
-use mathlib.Core.Path.{refl}
+use mathlib.Core.Path.{refl, sym, _∙_}
 use native.Mathlib.Omega.{arith}
 use Prim.Native.Nat.{_-_}
 use lib.ListN.{length}
 use borrow.Author.Needs.{needs}
-use Rattle.format.proofs.StepLaws.{Going, going-first, going-past, going-asks, going-stops, going-ends}
+use Rattle.format.proofs.StepLaws.{Going, going-first, going-past, going-asks, going-stops, going-ends, going-in-order}
 use Rattle.format.proofs.scan.Statement.{statement}
 use Rattle.format.proofs.scan.Tie as tie
 
@@ -33,5 +33,7 @@ scan-spec =
     (λ c. search needs)
     (λ c κs. search needs)
     (λ c. going-stops _ _ _ (c .before .before .before .before .before .before .loop .inv) (c .before .before .before .before .if1 .taken) _ (c .before .before .before .step .ensures) (c .before .enum-told .given .1) _ (c .refused .ensures))
-    (λ c κs. c .before .before .loop .inv .filled)
-    (λ c. going-ends _ _ _ (c .before .before .before .loop .inv) (c .before .if1 .left) _ (c .finished .ensures)))
+    (λ c κs. c .before .before .loop .inv .filled .few)
+    (λ c. going-in-order _ _ _ (c .before .before .before .before .loop .inv) (c .before .before .if1 .left) (sym (c .before .in-order .ensures) ∙ c .if2 .taken))
+    (λ c κs. c .before .before .before .before .loop .inv .filled)
+    (λ c. going-ends _ _ _ (c .before .before .before .before .before .loop .inv) (c .before .before .before .if1 .left) _ (c .finished .ensures)))
