@@ -119,7 +119,7 @@ impl Judge<'_> {
 
     /// Frames are taken now and then, and all at the end.
     fn pieces(&mut self, pieces: &[(Vec<u8>, usize)]) -> Agreement {
-        let table = BareTable;
+        let table = BareTable::default();
         let mut both = Streams { ours: Stream::default(), store: vec![0; STORE], out: vec![0; OUT], theirs: Rzcobs::new(&table) };
         for (piece, takes) in pieces {
             let answer = self.side.receive(&mut both.ours, &mut both.store, piece);
@@ -140,7 +140,7 @@ impl Judge<'_> {
         let taken = self.side.take(&mut both.ours, &mut both.store, &mut both.out);
         let message = &both.out[..taken.count as usize];
         match (taken.answer, both.theirs.decode()) {
-            (OK, Ok(frame)) if frame.message == message => self.tally.agreed("stream: a message taken"),
+            (OK, Ok(frame)) if *frame.message == message => self.tally.agreed("stream: a message taken"),
             (MALFORMED, Err(DecodeError::Malformed)) => self.tally.agreed("stream: MALFORMED"),
             (WAIT, Err(DecodeError::UnexpectedEof)) => self.tally.agreed("stream: WAIT"),
             (_, theirs) => {

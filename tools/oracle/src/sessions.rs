@@ -46,7 +46,7 @@ fn wire(random: &mut Random) -> Vec<u8> {
 }
 
 fn session(list: &mut Vec<u8>, random: &mut Random) {
-    let table = BareTable;
+    let table = BareTable::default();
     let mut stream = Rzcobs::new(&table);
     list.push(b'n');
     let wire = wire(random);

@@ -3,17 +3,25 @@
 
 pub use defmt_decoder::DecodeError;
 
+use std::cell::{Ref, RefCell};
+
 pub struct Frame<'t> {
-    pub message: Vec<u8>,
-    _table: std::marker::PhantomData<&'t ()>,
+    pub message: Ref<'t, Vec<u8>>,
 }
 
-pub struct Table;
+/// Holds the last message: one buffer for all of them, so that a stream's time is the stream's own.
+#[derive(Default)]
+pub struct Table {
+    last: RefCell<Vec<u8>>,
+}
 
 impl Table {
     fn decode(&self, message: &[u8]) -> Result<(Frame<'_>, usize), DecodeError> {
-        let frame = Frame { message: message.to_vec(), _table: std::marker::PhantomData };
-        Ok((frame, message.len()))
+        let mut last = self.last.borrow_mut();
+        last.clear();
+        last.extend_from_slice(message);
+        drop(last);
+        Ok((Frame { message: self.last.borrow() }, message.len()))
     }
 }
 
