@@ -18,8 +18,8 @@ fn told(o: Outcome) -> u64
     }
 }
 
-// Inner: a message decoded by a checked book. The answer counts the rows.
 #[no_mangle]
+// Inner: a message decoded by a checked book. The answer counts the rows.
 pub extern "C" fn bench_decode(book: &[u8], message: &[u8], rows: &mut [u64]) -> u64
     requires { ⌜ checked (now book) ≡ Ok ⌝ }
     ensures { λ r. ⌜ DecodesChecked (now (book .entry)) (now (message .entry)) (now (rows .entry)) (now (rows .exit)) r ⌝ }
@@ -30,8 +30,8 @@ pub extern "C" fn bench_decode(book: &[u8], message: &[u8], rows: &mut [u64]) ->
     }
 }
 
-// Inner: a message's text by a checked book. The answer counts its bytes.
 #[no_mangle]
+// Inner: a message's text by a checked book. The answer counts its bytes.
 pub extern "C" fn bench_message_text(
     book: &[u8],
     message: &[u8],
@@ -44,8 +44,8 @@ pub extern "C" fn bench_message_text(
     told(text::text_checked(book, message, Which::Message, rows, out))
 }
 
-// Inner: a timestamp's text by a checked book. The answer counts its bytes.
 #[no_mangle]
+// Inner: a timestamp's text by a checked book. The answer counts its bytes.
 pub extern "C" fn bench_timestamp_text(
     book: &[u8],
     message: &[u8],
