@@ -10,7 +10,7 @@ use mathlib.Core.Logic.{inl, inr}
 use mathlib.Core.List.{List, [], _∷_, _++_, append-assoc, append-nil}
 use lib.ListN.{length, take, drop, getD, set, length-append, length-set, length-drop, drop-of-length-le, take-append-drop}
 use lib.Pow.{pow-mono}
-use lib.Seq.{drop-cons, take-suc, take-add, set-set, length-take-le, getD-drop, sets, sets-eq, length-sets, take-at, drop-at, drop-drop}
+use lib.Seq.{paste, drop-cons, take-suc, take-add, set-set, length-take-le, getD-drop, sets, sets-eq, length-sets, take-at, drop-at, drop-drop}
 use lib.Dec.{ltb}
 use borrow.Author.Tests.{ltb-true, ltb-false, not-true, not-false}
 use Rattle.answer.specs.Answer.{Bytes, limit, zeros}
@@ -19,7 +19,7 @@ use Rattle.answer.specs.declared.Outcome.the-variants.{Done, Refused}
 use Rattle.answer.specs.declared.Refusal.the-variants.{Room}
 use Rattle.blocks.specs.Blocks.{enc, encode, hasZero}
 use Rattle.blocks.specs.Promises.{Encodes}
-use Rattle.blocks.specs.Steps.{keep, marks, part, Lesser, Packs, Carries, Maskable, Coded, Codes, Writes}
+use Rattle.blocks.specs.Steps.{keep, marks, part, Lesser, Packs, Carrying, Carries, Maskable, Coded, Codes, Writes}
 use Rattle.blocks.specs.declared.encoding.Placed.{Placed}
 use Rattle.blocks.specs.declared.encoding.Placed.the-variants.{At, Short}
 use Rattle.blocks.proofs.Answers.{fitted-done, fitted-room, encode-fitted, encode-refused}
@@ -260,11 +260,11 @@ copy-more s i o n old new h e =
     ∙ ap (λ (j : ℕ). set (sets old o (part s i n)) (o + j) x) (sym (part-length s i n (omega arith)))
     ∙ sym (ap (sets old o) (part-more s i n h) ∙ sets-append (part s i n) (x ∷ []) old o)
 
-pub record Carrying (s : Bytes) (i most o : ℕ) (old new : Bytes) (n : ℕ) : Type 0 where
-  pub few : n ≤ most
-  pub free : hasZero (part s i n) ≡ false
-  pub len : length new ≡ length old
-  pub copied : new ≡ sets old o (part s i n)
+-- what a copy leaves is what stores of the part leave
+pub pasted-part : (s : Bytes) (i c : ℕ) (old : Bytes) (o : ℕ) → i + c ≤ length s → o + c ≤ length old → paste old o (drop i s) c ≡ sets old o (part s i c)
+pasted-part s i c old o h r =
+    let n : length (part s i c) ≡ c = part-length s i c h in
+    sym (sets-eq (part s i c) old o (omega (arith, n)) ∙ ap (λ (k : ℕ). take o old ++ part s i c ++ drop (o + k) old) n)
 
 module _ (s : Bytes) (i most o : ℕ) (old : Bytes) where
   pub carrying-none : Carrying s i most o old old 0
@@ -281,6 +281,40 @@ module _ (s : Bytes) (i most o : ℕ) (old : Bytes) where
         len = length-set new (o + n) x ∙ k .len;
         copied = copy-more s i o n old new (omega arith) (k .copied);
       }
+
+  module _ (mid : Bytes) (n : ℕ) (k : Carrying s i most o old mid n) (h : i + most ≤ length s) (c : ℕ) (l : n + c ≤ most) where
+    two-parts : part s i (n + c) ≡ part s i n ++ part s (i + n) c
+    two-parts = part-split s i n c ∙ ap (λ (t : Bytes). part s i n ++ take c t) (drop-drop n i s)
+
+    free-on : hasZero (part s (i + n) c) ≡ false → hasZero (part s i (n + c)) ≡ false
+    free-on z = ap hasZero two-parts ∙ zero-free-append (part s i n) (part s (i + n) c) (k .free) z
+
+    sets-on : sets mid (o + n) (part s (i + n) c) ≡ sets old o (part s i (n + c))
+    sets-on =
+        ap (λ (u : Bytes). sets u (o + n) (part s (i + n) c)) (k .copied)
+        ∙ ap (λ (j : ℕ). sets (sets old o (part s i n)) (o + j) (part s (i + n) c)) (sym (part-length s i n (omega arith)))
+        ∙ sym (ap (sets old o) two-parts ∙ sets-append (part s i n) (part s (i + n) c) old o)
+
+    -- c bytes more, none of them zero
+    pub carrying-piece : o + most ≤ length old → hasZero (part s (i + n) c) ≡ false → (next : Bytes) → next ≡ paste mid (o + n) (drop (i + n) s) c → Carrying s i most o old next (n + c)
+    carrying-piece r z next e =
+        let p : next ≡ sets mid (o + n) (part s (i + n) c) = e ∙ pasted-part s (i + n) c mid (o + n) (omega arith) (omega (arith, k .len)) in
+        record {
+          few = l;
+          free = free-on z;
+          len = ap length p ∙ length-sets mid (o + n) (part s (i + n) c) ∙ k .len;
+          copied = p ∙ sets-on;
+        }
+
+    -- c bytes more, up to a zero
+    pub carries-on : (new : Bytes) → Carries s (i + n) (most - n) (o + n) mid c new → Carries s i most o old (n + c) new
+    carries-on new m =
+        record {
+          few = l;
+          free = free-on (m .free);
+          ends = λ j. ap (λ (z : ℕ). getD s z 0) (omega arith) ∙ m .ends (omega arith);
+          copied = m .copied ∙ sets-on;
+        }
 
 module _ (s : Bytes) (i o : ℕ) (old : Bytes) (most lim n : ℕ) (new : Bytes) (h : i ≤ length s) (r : o < length old)
     (a : Lesser (length s - i) 127 most) (b : Lesser most (length old - o - 1) lim) (k : Carries s i lim o old n new) where

@@ -84,6 +84,13 @@ pub record Packs (bytes : Bytes) (o : ℕ) (old : Bytes) (p mask : ℕ) (new : B
   pub zeros : mask ≡ marks bytes 1 + (128 - 2 ^ length bytes)
   pub over : (b : ℕ) → set new p b ≡ sets old o (keep bytes ++ b ∷ [])
 
+-- n bytes were copied, at most as many as were wanted, and none of them zero
+pub record Carrying (s : Bytes) (i most o : ℕ) (old new : Bytes) (n : ℕ) : Type 0 where
+  pub few : n ≤ most
+  pub free : hasZero (part s i n) ≡ false
+  pub len : length new ≡ length old
+  pub copied : new ≡ sets old o (part s i n)
+
 -- n bytes were copied, up to a zero or as many as were wanted
 pub record Carries (s : Bytes) (i most o : ℕ) (old : Bytes) (n : ℕ) (new : Bytes) : Type 0 where
   pub few : n ≤ most

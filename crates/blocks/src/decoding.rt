@@ -3,11 +3,12 @@ ghost use mathlib.Core.Path.{_≡_};
 ghost use Prim.Native.Nat.{_+_, _-_, _≤_, _<_};
 ghost use mathlib.Core.List.{reverse, _++_};
 ghost use lib.ListN.{length, drop};
-ghost use lib.Seq.{paste};
 ghost use Rattle.answer.specs.Answer.{limit};
 ghost use Rattle.blocks.specs.Blocks.{hasZero, dec, decode};
 ghost use Rattle.blocks.specs.Promises.{given};
 ghost use Rattle.blocks.specs.Steps.{unread, runLength, measured, whole, copied, Below, Masked};
+use crate::copies::copy_7;
+use crate::copies::copy_32;
 
 // What the first pass finds: how long the message is, or that the blocks do not fit.
 pub enum Measured {
@@ -85,40 +86,6 @@ pub fn measure(coding: &[u8]) -> Measured
     } else {
         Measured::Length(n)
     }
-}
-
-// Copies n bytes of the coding, from a place on, to a place of the output.
-fn copy(coding: &[u8], from: usize, n: usize, out: &mut [u8], to: usize)
-    requires { ⌜ from + n ≤ length (now coding) ⌝ }
-    requires { ⌜ to + n ≤ length (now out) ⌝ }
-    ensures { λ _. ⌜ now (out .exit) ≡ paste (now (out .entry)) to (drop from (now (coding .entry))) n ⌝ }
-{
-    let mut k = 0;
-    while k < n {
-        out[to + k] = coding[from + k];
-        k += 1;
-    }
-}
-
-// A piece stands apart between the two, so that a compiler need not ask whether they overlap.
-fn copy_32(coding: &[u8], from: usize, out: &mut [u8], to: usize)
-    requires { ⌜ from + 32 ≤ length (now coding) ⌝ }
-    requires { ⌜ to + 32 ≤ length (now out) ⌝ }
-    ensures { λ _. ⌜ now (out .exit) ≡ paste (now (out .entry)) to (drop from (now (coding .entry))) 32 ⌝ }
-{
-    let mut piece = [0u8; 32];
-    copy(coding, from, 32, &mut piece, 0);
-    copy(&piece, 0, 32, out, to);
-}
-
-fn copy_7(coding: &[u8], from: usize, out: &mut [u8], to: usize)
-    requires { ⌜ from + 7 ≤ length (now coding) ⌝ }
-    requires { ⌜ to + 7 ≤ length (now out) ⌝ }
-    ensures { λ _. ⌜ now (out .exit) ≡ paste (now (out .entry)) to (drop from (now (coding .entry))) 7 ⌝ }
-{
-    let mut piece = [0u8; 7];
-    copy(coding, from, 7, &mut piece, 0);
-    copy(&piece, 0, 7, out, to);
 }
 
 // Copies by pieces of 32, from the end down. The last may reach below the two places.

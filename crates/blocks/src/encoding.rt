@@ -5,7 +5,10 @@ ghost use Prim.Native.Nat.{_+_, _≤_, _<_};
 ghost use lib.ListN.{length};
 ghost use lib.Seq.{sets};
 ghost use lib.Dec.{ltb};
-ghost use Rattle.blocks.specs.Steps.{keep, marks, part, Lesser, Packs, Carries, Maskable, Codes, Writes};
+ghost use Rattle.blocks.specs.Steps.{keep, marks, part, Lesser, Packs, Carrying, Carries, Maskable, Codes, Writes};
+use crate::copies::copy_7;
+use crate::copies::copy_8;
+use crate::decoding::has_zero;
 
 // The places after a block, in the message and in the output; or that the output has no room for it.
 pub enum Placed {
@@ -82,8 +85,26 @@ fn pack(message: &[u8], i: usize, c: usize, out: &mut [u8], o: usize) -> Packed
     }
 }
 
-// Copies the bytes from place i on, up to a zero, and at most as many as that; answers how many they are.
-fn carry(message: &[u8], i: usize, most: usize, out: &mut [u8], o: usize) -> usize
+// Copies by eights the bytes from place i on, as long as no zero is among them, and at most as many as that; answers how many they are.
+fn eights(message: &[u8], i: usize, most: usize, out: &mut [u8], o: usize) -> usize
+    requires { ⌜ i + most ≤ length (now message) ⌝ }
+    requires { ⌜ o + most ≤ length (now out) ⌝ }
+    ensures { λ r. ⌜ Carrying (now (message .entry)) i most o (now (out .entry)) (now (out .exit)) r ⌝ }
+{
+    let mut n = 0;
+    while 8 <= most - n {
+        let at = i + n;
+        if has_zero(&message[at..at + 8]) {
+            return n;
+        }
+        copy_8(message, at, out, o + n);
+        n += 8;
+    }
+    n
+}
+
+// The same byte by byte, up to a zero.
+fn singles(message: &[u8], i: usize, most: usize, out: &mut [u8], o: usize) -> usize
     requires { ⌜ i + most ≤ length (now message) ⌝ }
     requires { ⌜ o + most ≤ length (now out) ⌝ }
     ensures { λ r. ⌜ Carries (now (message .entry)) i most o (now (out .entry)) r (now (out .exit)) ⌝ }
@@ -98,6 +119,16 @@ fn carry(message: &[u8], i: usize, most: usize, out: &mut [u8], o: usize) -> usi
         n += 1;
     }
     n
+}
+
+// Copies the bytes from place i on, up to a zero, and at most as many as that; answers how many they are.
+fn carry(message: &[u8], i: usize, most: usize, out: &mut [u8], o: usize) -> usize
+    requires { ⌜ i + most ≤ length (now message) ⌝ }
+    requires { ⌜ o + most ≤ length (now out) ⌝ }
+    ensures { λ r. ⌜ Carries (now (message .entry)) i most o (now (out .entry)) r (now (out .exit)) ⌝ }
+{
+    let n = eights(message, i, most, out, o);
+    n + singles(message, i + n, most - n, out, o + n)
 }
 
 // Goes on with a run of which seven bytes are written: up to a zero, to 134 bytes, or to the message's end.
@@ -132,18 +163,6 @@ fn holes(message: &[u8], i: usize) -> u8
     n
 }
 
-fn copy_seven(message: &[u8], i: usize, out: &mut [u8], o: usize)
-    requires { ⌜ i + 7 ≤ length (now message) ⌝ }
-    requires { ⌜ o + 7 ≤ length (now out) ⌝ }
-    ensures { λ _. ⌜ now (out .exit) ≡ sets (now (out .entry)) o (part (now (message .entry)) i 7) ⌝ }
-{
-    let mut k = 0;
-    while k < 7 {
-        out[o + k] = message[i + k];
-        k += 1;
-    }
-}
-
 // A block that begins with seven bytes of data.
 fn long(message: &[u8], i: usize, out: &mut [u8], o: usize) -> Placed
     requires { ⌜ i + 7 ≤ length (now message) ⌝ }
@@ -154,7 +173,7 @@ fn long(message: &[u8], i: usize, out: &mut [u8], o: usize) -> Placed
     if out.len() - o < 8 {
         return Placed::Short;
     }
-    copy_seven(message, i, out, o);
+    copy_7(message, i, out, o);
     run(message, i + 7, out, o + 7)
 }
 

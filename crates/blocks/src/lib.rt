@@ -2,6 +2,7 @@
 //
 // `decode` and `encode` are 01's Blocks. `decode` goes over its input twice: once to judge it and to measure the message, and
 // then, if the message fits, to write it from its end. `encode` writes as it goes, and finds on the way whether there is room.
+mod copies;
 mod decoding;
 mod encoding;
 

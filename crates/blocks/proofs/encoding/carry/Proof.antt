@@ -1,36 +1,21 @@
-use Prim.Native.Nat.{_-_}
+use mathlib.Core.Path.{_∙_}
 use native.Mathlib.Omega.{arith}
-use Rattle.blocks.proofs.Emitting.{Carrying, carrying-none, carrying-more}
+use Rattle.blocks.proofs.Emitting.{carries-on}
 use Rattle.blocks.proofs.encoding.carry.Statement.{statement}
 use Rattle.blocks.proofs.encoding.carry.Tie as tie
-
-abbrev Inv-loop : tie.InvT-loop
-Inv-loop message i most out₀ o n₀ out n = Carrying message i most o out₀ out n
-
-abbrev μ-loop : tie.MeasureT-loop
-μ-loop message i most out₀ o n₀ out n = most - n
 
 pub carry-spec : {M : Type 1} → statement M
 carry-spec =
     tie.close
     (tie.spec
-    Inv-loop
-    μ-loop
-    (λ c. carrying-none _ _ _ _ _)
-    (λ c. omega arith)
-    (λ c. omega arith)
-    (λ c. c .before .before .before .loop .inv .len)
+    (λ c κs. (c .before .before .before .pre .0, c .before .before .before .pre .1))
+    (λ c. omega (arith, c .before .before .eights .ensures .few))
+    (λ c. omega (arith, c .before .before .eights .ensures .few))
+    (λ c. omega (arith, c .before .before .before .eights .ensures .few))
+    (λ c κs. (omega (arith, c .before .before .before .eights .ensures .few), omega (arith, c .before .before .before .eights .ensures .few, c .before .before .before .eights .ensures .len)))
+    (λ c. omega (arith, c .before .before .singles .ensures .few, c .before .before .before .before .before .before .eights .ensures .few))
+    (λ c. c .before .before .singles .kept .1 .1 .1 .0 ∙ c .before .before .before .before .before .before .eights .ensures .len)
     (λ c.
-    let l = c .before .before .before .loop in
-    record { few = l .inv .few; free = l .inv .free; ends = λ h. c .if1 .taken; copied = l .inv .copied })
-    (λ c. omega arith)
-    (λ c. omega (arith, c .before .before .before .loop .inv .len))
-    (λ c. omega arith)
-    (λ c. omega arith)
-    (λ c.
-    let l = c .before .before .before .loop in
-    carrying-more _ _ _ _ _ _ (l .n) (omega arith) (c .before .before .before .before .pre .0) (c .if1 .left) (l .inv))
-    (λ c. c .before .loop .inv .len)
-    (λ c.
-    let l = c .before .loop in
-    record { few = l .inv .few; free = l .inv .free; ends = λ h. absurd (let w : ⊥ = omega arith in w); copied = l .inv .copied }))
+    let n = c .before .before .before .before .before .before .eights in
+    let m = c .before .before .singles in
+    carries-on _ _ _ _ _ _ (n .result) (n .ensures) (c .before .before .before .before .before .before .before .before .before .before .pre .0) (m .result) (omega (arith, n .ensures .few, m .ensures .few)) _ (m .ensures)))

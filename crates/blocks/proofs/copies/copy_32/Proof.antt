@@ -6,11 +6,11 @@ use lib.ListN.{length, drop, replicate, length-drop}
 use lib.Seq.{paste}
 use Rattle.answer.specs.Answer.{Bytes}
 use Rattle.blocks.proofs.Copying.{by-piece}
-use Rattle.blocks.proofs.decoding.copy_7.Statement.{statement}
-use Rattle.blocks.proofs.decoding.copy_7.Tie as tie
+use Rattle.blocks.proofs.copies.copy_32.Statement.{statement}
+use Rattle.blocks.proofs.copies.copy_32.Tie as tie
 
-pub copy-7-spec : {M : Type 1} → statement M
-copy-7-spec =
+pub copy-32-spec : {M : Type 1} → statement M
+copy-32-spec =
     tie.close
     (tie.spec
     (λ c. refl)
@@ -20,8 +20,8 @@ copy-7-spec =
     (λ c. search needs)
     (λ c.
     let a = c .before .before .before .before .before .before .before .before .before .before .args in
-    let l : Bytes = drop (a .from) (a .coding .now) in
-    let h : 7 ≤ length l = simp length-drop (omega (arith, c .before .before .before .before .before .before .before .before .before .before .pre .0)) in
+    let l : Bytes = drop (a .from) (a .source .now) in
+    let h : 32 ≤ length l = simp length-drop (omega (arith, c .before .before .before .before .before .before .before .before .before .before .pre .0)) in
     c .before .before .copy2 .ensures
-    ∙ ap (λ (t : Bytes). paste (a .out .now) (a .to) t 7) (c .before .before .before .before .before .before .copy .ensures)
-    ∙ by-piece (replicate 7 0) l (a .out .now) 7 (a .to) h))
+    ∙ ap (λ (t : Bytes). paste (a .out .now) (a .to) t 32) (c .before .before .before .before .before .before .copy .ensures)
+    ∙ by-piece (replicate 32 0) l (a .out .now) 32 (a .to) h))

@@ -1,0 +1,44 @@
+use Prim.Native.Nat.{ℕ, _+_, _-_}
+use mathlib.Core.Path.{_≡_, sym, ap, _∙_}
+use native.Mathlib.Omega.{arith}
+use Rattle.blocks.proofs.Emitting.{carrying-none, carrying-piece}
+use Rattle.blocks.specs.Blocks.{hasZero}
+use Rattle.blocks.specs.Steps.{part, Carrying}
+use Rattle.blocks.proofs.encoding.eights.Statement.{statement}
+use Rattle.blocks.proofs.encoding.eights.Tie as tie
+
+abbrev Inv-loop : tie.InvT-loop
+Inv-loop message i most out₀ o n₀ out n = Carrying message i most o out₀ out n
+
+abbrev μ-loop : tie.MeasureT-loop
+μ-loop message i most out₀ o n₀ out n = most - n
+
+pub eights-spec : {M : Type 1} → statement M
+eights-spec =
+    tie.close
+    (tie.spec
+    Inv-loop
+    μ-loop
+    (λ c. carrying-none _ _ _ _ _)
+    (λ c. omega arith)
+    (λ c. omega arith)
+    (λ c. omega arith)
+    (λ c. omega arith)
+    (λ c. omega arith)
+    (λ c. omega arith)
+    (λ c κs. tt)
+    (λ c. c .before .before .before .before .loop .inv .len)
+    (λ c. c .before .before .before .before .loop .inv)
+    (λ c. omega arith)
+    (λ c κs. (omega arith, omega arith))
+    (λ c. omega arith)
+    (λ c. omega arith)
+    (λ c.
+    let a = c .before .before .before .before .before .before .before .before .before .before .before in
+    let l = c .before .before .before .before .before .before .before .before .loop in
+    let at : ℕ = a .args .i + l .n in
+    let z : 8 ≡ at + 8 - at = omega arith in
+    let free = ap (λ (k : ℕ). hasZero (part (a .args .message .now) at k)) z ∙ sym (c .before .before .before .before .before .has-zero .ensures) ∙ c .before .before .before .before .if1 .left in
+    carrying-piece (a .args .message .now) (a .args .i) (a .args .most) (a .args .o) (a .args .out .now) (l .out) (l .n) (l .inv) (a .pre .0) 8 (omega arith) (a .pre .1) free _ (c .before .before .copy-8 .ensures))
+    (λ c. c .before .loop .inv .len)
+    (λ c. c .before .loop .inv))
