@@ -1,6 +1,6 @@
 -- Where a text of the book stands, and which text a row shows. Assumes nothing.
 use Prim.Native.Nat.{ℕ, zero, suc, _+_, _-_, _≤_, _<_}
-use mathlib.Core.Path.{_≡_, refl, sym, ap, ap₂, _∙_}
+use mathlib.Core.Path.{_≡_, refl, sym, ap, ap₂, _∙_, subst}
 use mathlib.Core.Bool.{Bool, true, false, _&&_}
 use mathlib.Core.List.{List, [], _∷_}
 use mathlib.Core.Option.{none, some}
@@ -25,7 +25,9 @@ use Rattle.format.specs.declared.types.Kind.{Kind}
 use Rattle.text.specs.Leaves.{interned}
 use Rattle.text.specs.Walk.{wordOf}
 use Rattle.text.specs.Text.{isItem, chosen, shownBy}
-use Rattle.text.specs.Marks.{Stands, SameSides}
+use Rattle.text.specs.Marks.{Stands, Holds, SameSides}
+use Rattle.text.specs.declared.places.Looked.{Looked}
+use Rattle.text.specs.declared.places.Looked.the-variants as looked
 
 drop-take : (k n : ℕ) (l : Bytes) → drop k (take n l) ≡ take (n - k) (drop k l)
 drop-take zero n l = rw sub-zero
@@ -163,3 +165,9 @@ module _ (book rows : List ℕ) (row i v : ℕ) (ei : i ≡ wordOf rows row 1) (
             let ea : whole .start ≡ whole .start + p .start = omega (arith, z .0) in
             let eb : whole .stop ≡ whole .start + p .stop = omega (arith, z .1) in
             side-item w ew k ∙ ap₂ (part book) ea eb ∙ sym side-apart
+
+-- the last lookup was this one
+pub looked-same : (book : Bytes) (last : Looked) (i start stop index : ℕ) → last ≡ looked.At i start stop → Holds book last → i ≡ index
+    → Stands book (interned book index) (record { start = start; stop = stop })
+looked-same book last i start stop index e h q =
+    subst (λ (k : ℕ). Stands book (interned book k) (record { start = start; stop = stop })) q (subst (Holds book) e h)

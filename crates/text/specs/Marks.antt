@@ -17,13 +17,15 @@ use Rattle.format.specs.declared.hints.Hint.{Hint}
 use Rattle.format.specs.declared.hints.Hint.the-variants as hint
 use Rattle.text.specs.Prints.{Text, unprintable}
 use Rattle.text.specs.Hints.{sortOf}
-use Rattle.text.specs.Leaves.{leafBad, leafBlank}
+use Rattle.text.specs.Leaves.{interned, leafBad, leafBlank}
 use Rattle.text.specs.Walk.{countOf, wordOf, classOf}
 use Rattle.text.specs.Text.{isItem, join, inForce, textOf}
 use Rattle.text.specs.declared.hints.Sort.{Sort}
 use Rattle.text.specs.declared.hints.Sort.the-variants as sort
 use Rattle.text.specs.declared.walk.Class.{Class}
 use Rattle.text.specs.declared.walk.Class.the-variants as class
+use Rattle.text.specs.declared.places.Looked.{Looked}
+use Rattle.text.specs.declared.places.Looked.the-variants as looked
 use Rattle.text.specs.declared.judging.Judged.{Judged}
 use Rattle.text.specs.declared.judging.Sides.{Sides}
 use Rattle.text.specs.declared.judging.Walked.{Walked}
@@ -33,6 +35,11 @@ pub record Stands (s t : Bytes) (r : Place) : Type 0 where
   pub order : r .start ≤ r .stop
   pub inside : r .stop ≤ length s
   pub reads : part s (r .start) (r .stop) ≡ t
+
+-- the last lookup says where the text of its index stands
+abbrev pub Holds : Bytes → Looked → Type 0
+Holds book looked.No = Unit {0}
+Holds book (looked.At i start stop) = Stands book (interned book i) (record { start = start; stop = stop })
 
 -- is a text NOPRINT under a hint of this sort?
 abbrev pub told : Judged → Sort → Bool

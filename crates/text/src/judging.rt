@@ -2,8 +2,10 @@
 use crate::hints::Sort;
 use crate::leaves::leaf_bad;
 use crate::leaves::leaf_blank;
+use crate::places::Looked;
+use crate::places::look;
+use crate::places::look_at;
 use crate::places::some_byte;
-use crate::places::stored;
 use crate::places::variant;
 use crate::walk::Class;
 use crate::walk::child;
@@ -28,7 +30,7 @@ ghost use Rattle.format.specs.Grammar.{counterAfter};
 ghost use Rattle.text.specs.Prints.{unprintable};
 ghost use Rattle.text.specs.Walk.{countOf, wordOf, childOf, classOf};
 ghost use Rattle.text.specs.Text.{isItem, formatFrom, formatOf, eachOf, byteOf, bytesOf, listOf, laterOf, textOf};
-ghost use Rattle.text.specs.Marks.{told, sortElse, sortInner, sortIn, Judges, Adds, empty, bitOf, unpacked, side, sidesAt, withMark, Known, Ready, Steps, Leafy, SetMarks, SameSides, never, Fine};
+ghost use Rattle.text.specs.Marks.{Holds, told, sortElse, sortInner, sortIn, Judges, Adds, empty, bitOf, unpacked, side, sidesAt, withMark, Known, Ready, Steps, Leafy, SetMarks, SameSides, never, Fine};
 
 // Under which sorts of hint a text is NOPRINT, and whether it is known to be empty where it is not.
 pub struct Judged {
@@ -402,12 +404,19 @@ fn is_same(p: Place, n: usize, kind: u64) -> bool
 }
 
 // The text of a format, an item or an element. As an item it is shown whole, which makes no difference where it has no bar.
-fn judge_text(book: &[u8], message: &[u8], rows: &[u64], marks: &[u8], row: usize) -> Sides
-    requires { ⌜ Ready (now book) (now message) (now rows) (now marks) (row + 1) × (row < countOf (now rows)) × (classOf (wordOf (now rows) row 0) ≡ Class.Format) ⌝ }
+fn judge_text(
+    book: &[u8],
+    message: &[u8],
+    rows: &[u64],
+    marks: &[u8],
+    row: usize,
+    last: Looked,
+) -> Sides
+    requires { ⌜ Ready (now book) (now message) (now rows) (now marks) (row + 1) × (row < countOf (now rows)) × (classOf (wordOf (now rows) row 0) ≡ Class.Format) × Holds (now book) last ⌝ }
     ensures { λ r. ⌜ Known (now (book .entry)) (now (message .entry)) (now (rows .entry)) row r ⌝ }
 {
     let first = row + 1;
-    let whole = stored(book, word(rows, row, 1));
+    let whole = look(book, last, word(rows, row, 1));
     let a = whole.start;
     let b = whole.stop;
     let p = variant(&book[a..b], word(rows, row, 2));
@@ -431,8 +440,15 @@ fn alike(j: Judged) -> Sides
 }
 
 // A row whose rows below are marked.
-fn judge_row(book: &[u8], message: &[u8], rows: &[u64], marks: &[u8], row: usize) -> Sides
-    requires { ⌜ Ready (now book) (now message) (now rows) (now marks) (row + 1) × (row < countOf (now rows)) ⌝ }
+fn judge_row(
+    book: &[u8],
+    message: &[u8],
+    rows: &[u64],
+    marks: &[u8],
+    row: usize,
+    last: Looked,
+) -> Sides
+    requires { ⌜ Ready (now book) (now message) (now rows) (now marks) (row + 1) × (row < countOf (now rows)) × Holds (now book) last ⌝ }
     ensures { λ r. ⌜ Known (now (book .entry)) (now (message .entry)) (now (rows .entry)) row r ⌝ }
 {
     let kind = word(rows, row, 0);
@@ -440,7 +456,7 @@ fn judge_row(book: &[u8], message: &[u8], rows: &[u64], marks: &[u8], row: usize
     let b = word(rows, row, 2);
     match class_of(kind) {
         Class::Leaf => alike(judge_leaf(message, book, kind, a, b)),
-        Class::Format => judge_text(book, message, rows, marks, row),
+        Class::Format => judge_text(book, message, rows, marks, row, last),
         Class::List => alike(judge_list(book, message, rows, marks, row + 1, b)),
         Class::Sequence => alike(judge_each(
             book,
@@ -486,16 +502,31 @@ fn never_bad(j: Judged) -> bool
     !j.debugged
 }
 
+// The last lookup after a row, which makes one if it shows a text.
+fn look_row(book: &[u8], rows: &[u64], last: Looked, row: usize) -> Looked
+    requires { ⌜ (checked (now book) ≡ Ok) × Holds (now book) last ⌝ }
+    ensures { λ r. ⌜ Holds (now (book .entry)) r ⌝ }
+{
+    match class_of(word(rows, row, 0)) {
+        Class::Format => look_at(book, rows, last, row),
+        Class::Leaf => last,
+        Class::List => last,
+        Class::Sequence => last,
+    }
+}
+
 // Inner: marks each row, the last first. Whether no row can be NOPRINT under any hint.
 pub fn mark(book: &[u8], message: &[u8], rows: &[u64], marks: &mut [u8]) -> bool
     requires { ⌜ (checked (now book) ≡ Ok) × (countOf (now rows) * 2 ≤ length (now marks)) ⌝ }
     ensures { λ r. ⌜ Ready (now (book .entry)) (now (message .entry)) (now (rows .entry)) (now (marks .exit)) 0 × Fine (now (book .entry)) (now (message .entry)) (now (rows .entry)) 0 r ⌝ }
 {
     let mut fine = true;
+    let mut last = Looked::No;
     let mut row = rows.len() / WIDTH;
     while 0 < row {
         row -= 1;
-        let s = judge_row(book, message, rows, marks, row);
+        last = look_row(book, rows, last, row);
+        let s = judge_row(book, message, rows, marks, row, last);
         set_marks(marks, row, s);
         fine = both(fine, both(never_bad(s.apart), never_bad(s.item)));
     }

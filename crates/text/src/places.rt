@@ -19,7 +19,13 @@ ghost use Rattle.format.specs.declared.types.Kind.the-variants as kind;
 ghost use Rattle.text.specs.Hints.{sortOf};
 ghost use Rattle.text.specs.Leaves.{interned};
 ghost use Rattle.text.specs.Text.{isItem, chosen, shownBy, someByte, isQuoted};
-ghost use Rattle.text.specs.Marks.{Stands};
+ghost use Rattle.text.specs.Marks.{Stands, Holds};
+
+// The last lookup: an index, and from where to where its text stands.
+pub enum Looked {
+    No,
+    At(u64, usize, usize),
+}
 
 fn nowhere() -> Place
     ensures { λ r. ⌜ r ≡ record { start = 0; stop = 0 } ⌝ }
@@ -44,6 +50,29 @@ pub fn stored(book: &[u8], index: u64) -> Place
     }
 }
 
+// Inner: the same, where the last lookup may have been this one: the elements of a list have one index.
+pub fn look(book: &[u8], last: Looked, index: u64) -> Place
+    requires { ⌜ (checked (now book) ≡ Ok) × Holds (now book) last ⌝ }
+    ensures { λ r. ⌜ Stands (now (book .entry)) (interned (now (book .entry)) index) r ⌝ }
+{
+    if let Looked::At(i, start, stop) = last {
+        if i == index {
+            return Place { start, stop };
+        }
+    }
+    stored(book, index)
+}
+
+// Inner: the index of a row, looked up.
+pub fn look_at(book: &[u8], rows: &[u64], last: Looked, row: usize) -> Looked
+    requires { ⌜ (checked (now book) ≡ Ok) × Holds (now book) last ⌝ }
+    ensures { λ r. ⌜ Holds (now (book .entry)) r ⌝ }
+{
+    let index = word(rows, row, 1);
+    let p = look(book, last, index);
+    Looked::At(index, p.start, p.stop)
+}
+
 // A variant's piece of a text.
 pub fn variant(text: &[u8], k: u64) -> Place
     ensures { λ r. ⌜ Stands (now (text .entry)) (chosen false (now (text .entry)) k) r ⌝ }
@@ -58,11 +87,11 @@ pub fn variant(text: &[u8], k: u64) -> Place
 }
 
 // Inner: the text that a row shows, seen as a type.
-pub fn shown_text(book: &[u8], rows: &[u64], row: usize, seen: Kind) -> Place
-    requires { ⌜ checked (now book) ≡ Ok ⌝ }
+pub fn shown_text(book: &[u8], rows: &[u64], row: usize, seen: Kind, last: Looked) -> Place
+    requires { ⌜ (checked (now book) ≡ Ok) × Holds (now book) last ⌝ }
     ensures { λ r. ⌜ Stands (now (book .entry)) (shownBy (now (book .entry)) (now (rows .entry)) row seen) r ⌝ }
 {
-    let whole = stored(book, word(rows, row, 1));
+    let whole = look(book, last, word(rows, row, 1));
     if is_whole(seen, word(rows, row, 0)) {
         return whole;
     }
@@ -91,7 +120,7 @@ fn is_byte(book: &[u8], rows: &[u64], row: usize) -> bool
     requires { ⌜ checked (now book) ≡ Ok ⌝ }
     ensures { λ r. ⌜ r ≡ same (shownBy (now (book .entry)) (now (rows .entry)) row kind.Format) (bytes "{=u8}") ⌝ }
 {
-    let p = shown_text(book, rows, row, Kind::Format);
+    let p = shown_text(book, rows, row, Kind::Format, Looked::No);
     let start = p.start;
     let stop = p.stop;
     parts::same(&book[start..stop], b"{=u8}")

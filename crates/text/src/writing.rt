@@ -4,7 +4,9 @@ use crate::hints::or_else;
 use crate::judging::counter_after;
 use crate::judging::is_blank;
 use crate::leaves::leaf;
+use crate::places::Looked;
 use crate::places::is_quoted;
+use crate::places::look_at;
 use crate::places::shown_text;
 use crate::walk::Class;
 use crate::walk::child;
@@ -26,7 +28,7 @@ ghost use Rattle.put.specs.Put.{Put};
 ghost use Rattle.text.specs.Prints.{Prints};
 ghost use Rattle.text.specs.Walk.{countOf};
 ghost use Rattle.text.specs.Text.{isItem, between, byteOf, quotedOf, formatFrom, formatOf, eachOf, listOf, laterOf, textOf};
-ghost use Rattle.text.specs.Marks.{Ready};
+ghost use Rattle.text.specs.Marks.{Ready, Holds};
 ghost use Rattle.text.specs.Writes.{Writes};
 
 // A walk of a text: the place in the output, the place in the text, and the counter.
@@ -94,8 +96,9 @@ fn value(
     seen: Kind,
     own: Hint,
     parent: Hint,
+    last: Looked,
 ) -> usize
-    requires { ⌜ Ready (now book) (now message) (now rows) (now marks) 0 ⌝ }
+    requires { ⌜ Ready (now book) (now message) (now rows) (now marks) 0 × Holds (now book) last ⌝ }
     ensures { λ r. ⌜ Prints (textOf (now (book .entry)) (now (message .entry)) (now (rows .entry)) row seen own parent) (now (out .entry)) at (now (out .exit)) r ⌝ }
 {
     if row >= rows.len() / WIDTH {
@@ -110,7 +113,7 @@ fn value(
     match class_of(kind) {
         Class::Leaf => leaf(book, message, out, at, seen, own, parent, kind, a, b),
         Class::Format => {
-            let p = shown_text(book, rows, row, seen);
+            let p = shown_text(book, rows, row, seen, last);
             let start = p.start;
             let stop = p.stop;
             format_text(
@@ -184,7 +187,19 @@ fn fragment(
             let row = child(rows, p.position, first);
             let seen = p.kind;
             Written {
-                to: value(book, message, rows, marks, out, w.to, row, seen, own, h),
+                to: value(
+                    book,
+                    message,
+                    rows,
+                    marks,
+                    out,
+                    w.to,
+                    row,
+                    seen,
+                    own,
+                    h,
+                    Looked::No,
+                ),
                 next: n,
                 counter: counter_after(c, w.counter),
             }
@@ -251,7 +266,9 @@ fn each(
     let mut q = at;
     let mut row = first;
     let mut left = n;
+    let mut last = Looked::No;
     while 0 < left {
+        last = look_at(book, rows, last, row);
         let p = value(
             book,
             message,
@@ -263,6 +280,7 @@ fn each(
             seen,
             Hint::Plain,
             h,
+            last,
         );
         row = next(rows, row);
         left -= 1;

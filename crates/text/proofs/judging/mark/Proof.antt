@@ -4,16 +4,16 @@ use native.Mathlib.Omega.{arith}
 use Prim.Native.Nat.{_≤_}
 use lib.ListN.{length}
 use Rattle.text.specs.Walk.{countOf}
-use Rattle.text.specs.Marks.{Ready, Fine}
+use Rattle.text.specs.Marks.{Ready, Fine, Holds}
 use borrow.Author.Needs.{needs}
 use Rattle.text.proofs.judging.mark.Statement.{statement}
 use Rattle.text.proofs.judging.mark.Tie as tie
 
 abbrev Inv-loop : tie.InvT-loop
-Inv-loop book message rows marks₀ fine₀ row₀ marks fine row = Ready book message rows marks row × (row ≤ countOf rows) × Fine book message rows row fine × (length marks ≡ length marks₀)
+Inv-loop book message rows marks₀ fine₀ last₀ row₀ marks fine last row = Ready book message rows marks row × (row ≤ countOf rows) × Fine book message rows row fine × (length marks ≡ length marks₀) × Holds book last
 
 abbrev μ-loop : tie.MeasureT-loop
-μ-loop book message rows marks₀ fine₀ row₀ marks fine row = row
+μ-loop book message rows marks₀ fine₀ last₀ row₀ marks fine last row = row
 
 pub mark-spec : {M : Type 1} → statement M
 mark-spec =
@@ -21,15 +21,16 @@ mark-spec =
     (tie.spec
     Inv-loop
     μ-loop
-    (λ c. (ready-none _ _ _ _ (c .before .before .before .before .pre .0) (c .before .before .before .before .pre .1), omega arith, fine-none _ _ _ _, refl))
+    (λ c. (ready-none _ _ _ _ (c .before .before .before .before .pre .0) (c .before .before .before .before .pre .1), omega arith, fine-none _ _ _ _, refl, tt))
     (λ c. search needs)
-    (λ c κs. (ready-on _ (omega (arith, (c .before .loop-test .taken))) (c .before .before .loop .inv .0), omega (arith, (c .before .before .loop .inv .1), (c .before .loop-test .taken))))
-    (λ c κs. omega (arith, (c .before .before .before .before .loop .inv .0 .room), (c .before .before .before .before .loop .inv .1), (c .before .before .before .loop-test .taken)))
+    (λ c κs. (c .before .before .before .before .before .before .pre .0, c .before .loop .inv .4))
+    (λ c κs. (ready-on _ (omega (arith, (c .before .before .loop-test .taken))) (c .before .before .before .loop .inv .0), omega (arith, (c .before .before .before .loop .inv .1), (c .before .before .loop-test .taken)), c .before .look-row .ensures))
+    (λ c κs. omega (arith, (c .before .before .before .before .before .loop .inv .0 .room), (c .before .before .before .before .before .loop .inv .1), (c .before .before .before .before .loop-test .taken)))
     (λ c κs. search needs)
     (λ c κs. search needs)
     (λ c κs. search needs)
     (λ c κs. search needs)
-    (λ c. omega (arith, (c .before .before .before .before .before .before .before .before .before .before .loop-test .taken)))
-    (λ c. (ready-more _ _ _ _ _ _ _ (ready-on _ (omega (arith, (c .before .before .before .before .before .before .before .before .before .before .loop-test .taken))) (c .before .before .before .before .before .before .before .before .before .before .before .loop .inv .0)) (c .before .before .before .before .before .before .set-marks .ensures) (c .before .before .before .before .before .before .before .before .judge-row .ensures), omega (arith, (c .before .before .before .before .before .before .before .before .before .before .before .loop .inv .1)), fine-more _ _ _ _ _ _ _ _ _ _ (omega (arith, (c .before .before .before .before .before .before .before .before .before .before .before .loop .inv .1), (c .before .before .before .before .before .before .before .before .before .before .loop-test .taken))) (fine-on _ _ _ _ _ _ (omega (arith, (c .before .before .before .before .before .before .before .before .before .before .loop-test .taken))) (c .before .before .before .before .before .before .before .before .before .before .before .loop .inv .2)) (c .before .before .before .before .before .before .before .before .judge-row .ensures) (c .before .before .before .never-bad .ensures) (c .before .before .never-bad2 .ensures) (c .before .both .ensures) (c .both2 .ensures), (c .before .before .before .before .before .before .set-marks .ensures .kept) ∙ (c .before .before .before .before .before .before .before .before .before .before .before .loop .inv .3)))
+    (λ c. omega (arith, (c .before .before .before .before .before .before .before .before .before .before .before .loop-test .taken)))
+    (λ c. (ready-more _ _ _ _ _ _ _ (ready-on _ (omega (arith, (c .before .before .before .before .before .before .before .before .before .before .before .loop-test .taken))) (c .before .before .before .before .before .before .before .before .before .before .before .before .loop .inv .0)) (c .before .before .before .before .before .before .set-marks .ensures) (c .before .before .before .before .before .before .before .before .judge-row .ensures), omega (arith, (c .before .before .before .before .before .before .before .before .before .before .before .before .loop .inv .1)), fine-more _ _ _ _ _ _ _ _ _ _ (omega (arith, (c .before .before .before .before .before .before .before .before .before .before .before .before .loop .inv .1), (c .before .before .before .before .before .before .before .before .before .before .before .loop-test .taken))) (fine-on _ _ _ _ _ _ (omega (arith, (c .before .before .before .before .before .before .before .before .before .before .before .loop-test .taken))) (c .before .before .before .before .before .before .before .before .before .before .before .before .loop .inv .2)) (c .before .before .before .before .before .before .before .before .judge-row .ensures) (c .before .before .before .never-bad .ensures) (c .before .before .never-bad2 .ensures) (c .before .both .ensures) (c .both2 .ensures), (c .before .before .before .before .before .before .set-marks .ensures .kept) ∙ (c .before .before .before .before .before .before .before .before .before .before .before .before .loop .inv .3), c .before .before .before .before .before .before .before .before .before .before .look-row .ensures))
     (λ c. (c .before .loop .inv .3))
     (λ c. (ready-on _ (omega arith) (c .before .loop .inv .0), fine-on _ _ _ _ _ _ (omega arith) (c .before .loop .inv .2))))

@@ -9,7 +9,7 @@ pub is-byte-spec : {M : Type 1} → statement M
 is-byte-spec =
     tie.close
     (tie.spec
-    (λ c κs. search needs)
+    (λ c κs. (search needs, tt))
     (λ c. search needs)
     (λ c. search needs)
     (λ c. search needs)

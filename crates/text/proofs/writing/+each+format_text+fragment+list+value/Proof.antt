@@ -14,6 +14,7 @@ use Prim.Native.Nat.{_+_, _-_, _*_, _/_, _≤_}
 use mathlib.Core.Bool.{not}
 use lib.ListN.{length}
 use Rattle.text.specs.Walk.{countOf}
+use Rattle.text.specs.Marks.{Holds}
 use Rattle.text.specs.Text.{isItem, eachOf, formatFrom, formatOf, laterOf}
 use borrow.Author.Needs.{needs}
 use Prim.Native.Nat.{ℕ, _<_}
@@ -43,6 +44,7 @@ use Rattle.text.proofs.judging.counter_after.Reads as counter-after-rea
 use Rattle.text.proofs.judging.is_blank.Reads as is-blank-reads
 use Rattle.text.proofs.leaves.leaf.Reads as leaf-reads
 use Rattle.text.proofs.places.is_quoted.Reads as is-quoted-reads
+use Rattle.text.proofs.places.look_at.Reads as look-at-reads
 use Rattle.text.proofs.places.shown_text.Reads as shown-text-reads
 use Rattle.text.proofs.walk.child.Reads as child-reads
 use Rattle.text.proofs.walk.class_of.Reads as class-of-reads
@@ -103,10 +105,10 @@ abbrev value-below : ℕ → In 5 value-kinds.ps
 value-below t = and 5 value-kinds.ps (falls 5 value-kinds.ps _<_ μ-value t) value.Pre
 
 abbrev each-Inv-loop : each-lts.InvT-loop
-each-Inv-loop book message rows marks out₀ at first seen h n commas q₀ row₀ left₀ out q row left = Going (eachOf (laterOf book message rows first) rows seen (not (isItem seen)) h n first) out₀ at out q (eachOf (laterOf book message rows first) rows seen (not (isItem seen)) h left row) × (first ≤ row) × (row ≤ countOf rows) × (commas ≡ not (isItem seen))
+each-Inv-loop book message rows marks out₀ at first seen h n commas q₀ row₀ left₀ last₀ out q row left last = Going (eachOf (laterOf book message rows first) rows seen (not (isItem seen)) h n first) out₀ at out q (eachOf (laterOf book message rows first) rows seen (not (isItem seen)) h left row) × (first ≤ row) × (row ≤ countOf rows) × (commas ≡ not (isItem seen)) × Holds book last
 
 abbrev each-μ-loop : each-lts.MeasureT-loop
-each-μ-loop book message rows marks out₀ at first seen h n commas q₀ row₀ left₀ out q row left = left
+each-μ-loop book message rows marks out₀ at first seen h n commas q₀ row₀ left₀ last₀ out q row left last = left
 
 abbrev format-text-Inv-loop : format-text-lts.InvT-loop
 format-text-Inv-loop book message rows marks text out₀ at first h w₀ out w = Going (formatOf (laterOf book message rows first) rows first h text) out₀ at out (w .to) (formatFrom (laterOf book message rows first) rows first h text (w .next) (w .counter)) × (w .next ≤ length text) × (w .counter ≤ w .next)
@@ -119,6 +121,8 @@ pub +each+format-text+fragment+list+value-spec : {M : Type 1} → statement M
     close μ-each μ-format-text μ-fragment μ-list μ-value (λ t. each-lts.spec (
       is-item-reads.Asked,
       is-item-reads.Learnt,
+      look-at-reads.Asked,
+      look-at-reads.Learnt,
       value-below t,
       value.Post,
       walk-next-reads.Asked,
@@ -131,15 +135,16 @@ pub +each+format-text+fragment+list+value-spec : {M : Type 1} → statement M
     each-Inv-loop
     each-μ-loop
     (λ c κs. search needs)
-    (λ c. (going _ _ _, omega arith, (c .before .before .before .before .before .before .pre .1 .1), ap not (c .is-item .ensures)))
-    (λ c κs. (omega (arith, (c .before .before .loop .inv .1)), (c .before .before .before .before .before .before .before .before .before .pre .1 .0)))
+    (λ c. (going _ _ _, omega arith, (c .before .before .before .before .before .before .pre .1 .1), ap not (c .is-item .ensures), tt))
+    (λ c κs. (c .before .before .before .before .before .before .before .before .pre .1 .0 .checks, c .before .loop .inv .4))
+    (λ c κs. (omega (arith, (c .before .before .before .loop .inv .1)), ((c .before .before .before .before .before .before .before .before .before .before .pre .1 .0), c .before .look-at .ensures)))
     (λ c κs. search needs)
     (λ c. search needs)
     (λ c κs. search needs)
-    (λ c. (c .before .before .before .put-between .ensures .kept) ∙ (c .before .before .before .before .before .before .before .before .value .ensures .kept) ∙ (c .before .before .before .before .before .before .before .before .before .before .before .loop .inv .0 .kept))
-    (λ c. going-stop (each-put _ _ _ _ _ _ _ _ _ (c .before .before .before .before .before .before .before .before .before .before .before .loop .inv .0) (c .before .before .before .before .before .before .before .before .before .before .loop-test .taken) (c .before .before .before .before .before .next .ensures) (c .before .before .before .before .before .before .before .before .before .before .before .loop .inv .3) (same (later-is _ _ _ _ _ _ _ _ (c .before .before .before .before .before .before .before .before .before .before .before .before .before .before .before .before .before .before .pre .1 .1) (c .before .before .before .before .before .before .before .before .before .before .before .loop .inv .1)) (c .before .before .before .before .before .before .before .before .value .ensures)) (c .before .before .before .put-between .ensures)) (c .if1 .taken))
+    (λ c. (c .before .before .before .put-between .ensures .kept) ∙ (c .before .before .before .before .before .before .before .before .value .ensures .kept) ∙ (c .before .before .before .before .before .before .before .before .before .before .before .before .loop .inv .0 .kept))
+    (λ c. going-stop (each-put _ _ _ _ _ _ _ _ _ (c .before .before .before .before .before .before .before .before .before .before .before .before .loop .inv .0) (c .before .before .before .before .before .before .before .before .before .before .before .loop-test .taken) (c .before .before .before .before .before .next .ensures) (c .before .before .before .before .before .before .before .before .before .before .before .before .loop .inv .3) (same (later-is _ _ _ _ _ _ _ _ (c .before .before .before .before .before .before .before .before .before .before .before .before .before .before .before .before .before .before .before .pre .1 .1) (c .before .before .before .before .before .before .before .before .before .before .before .before .loop .inv .1)) (c .before .before .before .before .before .before .before .before .value .ensures)) (c .before .before .before .put-between .ensures)) (c .if1 .taken))
     (λ c. omega arith)
-    (λ c. let n = next-on _ _ _ _ (c .before .before .before .before .before .before .before .before .before .before .before .loop .inv .1) (c .before .before .before .before .before .before .before .before .before .before .before .loop .inv .2) (c .before .before .before .before .before .next .ensures) in (each-put _ _ _ _ _ _ _ _ _ (c .before .before .before .before .before .before .before .before .before .before .before .loop .inv .0) (c .before .before .before .before .before .before .before .before .before .before .loop-test .taken) (c .before .before .before .before .before .next .ensures) (c .before .before .before .before .before .before .before .before .before .before .before .loop .inv .3) (same (later-is _ _ _ _ _ _ _ _ (c .before .before .before .before .before .before .before .before .before .before .before .before .before .before .before .before .before .before .pre .1 .1) (c .before .before .before .before .before .before .before .before .before .before .before .loop .inv .1)) (c .before .before .before .before .before .before .before .before .value .ensures)) (c .before .before .before .put-between .ensures), n .0, n .1, (c .before .before .before .before .before .before .before .before .before .before .before .loop .inv .3)))
+    (λ c. let n = next-on _ _ _ _ (c .before .before .before .before .before .before .before .before .before .before .before .before .loop .inv .1) (c .before .before .before .before .before .before .before .before .before .before .before .before .loop .inv .2) (c .before .before .before .before .before .next .ensures) in (each-put _ _ _ _ _ _ _ _ _ (c .before .before .before .before .before .before .before .before .before .before .before .before .loop .inv .0) (c .before .before .before .before .before .before .before .before .before .before .before .loop-test .taken) (c .before .before .before .before .before .next .ensures) (c .before .before .before .before .before .before .before .before .before .before .before .before .loop .inv .3) (same (later-is _ _ _ _ _ _ _ _ (c .before .before .before .before .before .before .before .before .before .before .before .before .before .before .before .before .before .before .before .pre .1 .1) (c .before .before .before .before .before .before .before .before .before .before .before .before .loop .inv .1)) (c .before .before .before .before .before .before .before .before .value .ensures)) (c .before .before .before .put-between .ensures), n .0, n .1, (c .before .before .before .before .before .before .before .before .before .before .before .before .loop .inv .3), c .before .before .before .before .before .before .before .before .before .before .look-at .ensures))
     (λ c. (c .before .loop .inv .0 .kept))
     (λ c. going-all (c .before .loop .inv .0) (each-none _ _ _ _ _ _ _ (omega arith))))
     (λ t. format-text-lts.spec
@@ -178,7 +183,7 @@ pub +each+format-text+fragment+list+value-spec : {M : Type 1} → statement M
     (λ c κs. search needs)
     (λ c. search needs)
     (λ c κs. (c .before .before .before .before .before .before .before .before .before .before .pre .1 .1))
-    (λ c κs. (omega (arith, (c .before .child .ensures .1)), (c .before .before .before .before .before .before .before .before .before .before .before .before .pre .1 .0)))
+    (λ c κs. (omega (arith, (c .before .child .ensures .1)), ((c .before .before .before .before .before .before .before .before .before .before .before .before .pre .1 .0), tt)))
     (λ c κs. omega (arith, (c .before .before .before .before .before .before .before .before .before .before .before .before .before .before .before .pre .1 .2), (c .before .before .before .before .before .before .before .before .before .before .before .before .before .before .before .pre .1 .3), (c .before .before .before .before .before .before .before .before .before .before .before .before .before .before .before .pre .1 .4)))
     (λ c. search needs)
     (λ c. search needs)
@@ -234,30 +239,30 @@ pub +each+format-text+fragment+list+value-spec : {M : Type 1} → statement M
     (value-at t)
     value.Post
     (λ c. nothing (text-past _ _ _ _ _ _ _ (c .if1 .taken)))
-    (λ c κs. omega (arith, (c .before .before .before .before .before .before .pre .1 .room), (c .if1 .left)))
-    (λ c. silent ((c .before .before .before .before .before .before .before .before .pre .1 .marked) _ (omega arith) (c .before .before .if1 .left) .blank _ (sym (c .before .is-blank .ensures) ∙ (c .if2 .taken)) _ _))
+    (λ c κs. omega (arith, (c .before .before .before .before .before .before .pre .1 .0 .room), (c .if1 .left)))
+    (λ c. silent ((c .before .before .before .before .before .before .before .before .pre .1 .0 .marked) _ (omega arith) (c .before .before .if1 .left) .blank _ (sym (c .before .is-blank .ensures) ∙ (c .if2 .taken)) _ _))
     (λ c κs. search needs)
     (λ c κs. search needs)
     (λ c κs. search needs)
     (λ c κs. search needs)
     (λ c. search needs)
-    (λ c κs. (c .before .before .before .before .before .before .before .before .before .before .before .before .before .before .before .pre .1 .checks))
+    (λ c κs. (c .before .before .before .before .before .before .before .before .before .before .before .before .before .before .before .pre .1 .0 .checks))
     (λ c. search needs)
-    (λ c κs. (c .before .before .before .before .before .before .before .before .before .before .before .before .before .before .pre .1 .checks))
+    (λ c κs. (c .before .before .before .before .before .before .before .before .before .before .before .before .before .before .pre .1 .0 .checks, c .before .before .before .before .before .before .before .before .before .before .before .before .before .before .pre .1 .1))
     (λ c. omega (arith, (c .shown-text .ensures .order)))
     (λ c. omega (arith, (c .shown-text .ensures .order), (c .shown-text .ensures .inside)))
     (λ c. omega (arith, (c .shown-text .ensures .order), (c .shown-text .ensures .inside)))
     (λ c. search needs)
     (λ c κs. search needs)
-    (λ c κs. (omega arith, ((c .before .before .before .before .before .before .before .before .before .before .before .before .before .before .before .before .before .before .pre .1), omega arith, part-small _ _ _ (c .before .before .before .before .before .before .before .before .before .before .before .before .before .before .before .before .before .before .pre .1 .checks) (c .before .before .before .shown-text .ensures .inside))))
+    (λ c κs. (omega arith, ((c .before .before .before .before .before .before .before .before .before .before .before .before .before .before .before .before .before .before .pre .1 .0), omega arith, part-small _ _ _ (c .before .before .before .before .before .before .before .before .before .before .before .before .before .before .before .before .before .before .pre .1 .0 .checks) (c .before .before .before .shown-text .ensures .inside))))
     (λ c. search needs)
     (λ c. search needs)
     (λ c κs. search needs)
-    (λ c κs. (omega arith, ((c .before .before .before .before .before .before .before .before .before .before .before .before .before .before .before .before .pre .1), omega arith)))
+    (λ c κs. (omega arith, ((c .before .before .before .before .before .before .before .before .before .before .before .before .before .before .before .before .pre .1 .0), omega arith)))
     (λ c. search needs)
     (λ c. search needs)
     (λ c κs. search needs)
-    (λ c κs. (omega arith, ((c .before .before .before .before .before .before .before .before .before .before .before .before .before .before .before .before .pre .1), omega arith)))
+    (λ c κs. (omega arith, ((c .before .before .before .before .before .before .before .before .before .before .before .before .before .before .before .before .pre .1 .0), omega arith)))
     (λ c. (c .before .before .leaf .ensures .kept))
     (λ c. value-leaf (c .before .before .before .before .before .before .before .before .before .before .before .before .before .before .before .before .before .before .args .book .now) (c .before .before .before .before .before .before .before .before .before .before .before .before .before .before .before .before .before .before .args .message .now) (c .before .before .before .before .before .before .before .before .before .before .before .before .before .before .before .before .before .before .args .rows .now) (c .before .before .before .before .before .before .before .before .before .before .before .before .before .before .before .before .before .before .args .row) (c .before .before .before .before .before .before .before .before .before .before .before .before .if1 .left) _ _ _ _ (c .before .before .before .before .before .before .before .before .before .word .ensures) (c .before .before .before .before .before .before .before .before .word2 .ensures) (c .before .before .before .before .before .before .before .word3 .ensures) (c .before .before .before .before .before .before .class-of .ensures) (c .before .before .before .before .before .before .before .before .before .before .before .before .before .before .before .before .before .before .args .seen) (c .before .before .before .before .before .before .before .before .before .before .before .before .before .before .before .before .before .before .args .own) (c .before .before .before .before .before .before .before .before .before .before .before .before .before .before .before .before .before .before .args .parent) (c .before .before .before .before .enum-told .given .1) (c .before .before .leaf .ensures))
     (λ c. (c .before .before .format-text .ensures .kept))
