@@ -12,3 +12,5 @@ pub mod Walking
 pub mod StepLaws
 pub mod Prepared
 pub mod Merged
+pub mod CodeLaws
+pub mod Lining

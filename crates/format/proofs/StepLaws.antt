@@ -27,7 +27,7 @@ use Rattle.format.specs.declared.sift.Sifted.{Sifted}
 use Rattle.format.specs.declared.sift.Stride.{Stride}
 use Rattle.format.specs.declared.sift.Stride.the-variants as stride
 use Rattle.format.proofs.InPlace.{take-drop, drop-blanks}
-use Rattle.format.proofs.Progress.{literal-past, parameter-past, end-past}
+use Rattle.format.proofs.Progress.{SoundKind, literal-past, parameter-past, end-past}
 use Rattle.format.proofs.Walking.{pieces-bad, pieces-literal, pieces-parameter, pieces-past}
 
 pub counter-moves : (b : Bool) (c : ℕ) → b ≡ true → c + 1 ≡ counterAfter b c
@@ -42,7 +42,7 @@ counter-few false c = omega arith
 
 -- ---- what an answer holds
 
-taken : (ps : List Param) → take (length ps) (padded ps) ≡ ps
+pub taken : (ps : List Param) → take (length ps) (padded ps) ≡ ps
 unfolding padded
 taken ps = take-append-seam ps (replicate (32 - length ps) blank)
 
@@ -50,7 +50,7 @@ holds : (ps : List Param) → length ps ≤ length (padded ps)
 unfolding padded
 holds ps = simp length-append (omega arith)
 
-long : (ps : List Param) → 32 ≤ length (padded ps)
+pub long : (ps : List Param) → 32 ≤ length (padded ps)
 unfolding padded
 long ps = simp (length-append, length-replicate) (omega arith)
 
@@ -253,7 +253,7 @@ module _ (s : Bytes) (items : List Param) (t : Sifted) (g : Going s items t) whe
 
   -- ---- literal bytes
 
-  literal-goes : (from to n : ℕ) → nextAt s (t .at) (t .counter) ≡ Literal from to n → (t .at < n) × Going s items (record { written = t .written; counter = t .counter; at = n })
+  literal-goes : (from to n : ℕ) → nextAt s (t .at) (t .counter) ≡ Literal from to n → (t .at < n) × Going s items (record { written = t .written; counter = t .counter; at = n }) × (t .written ≡ t .written)
   literal-goes from to n e = (
     literal-past s (t .at) (t .counter) from to n e .0,
     record {
@@ -263,18 +263,19 @@ module _ (s : Bytes) (items : List Param) (t : Sifted) (g : Going s items t) whe
           sym (ap (judged front-items) (pieces-literal s (t .at) (t .counter) from to n e) ∙ judged-literal front-items (part s from to) (piecesFrom s n (t .counter)))
           ∙ g .so;
     },
+    refl,
   )
 
-  past-by : (f : Fragment) (u : Sifted) → nextAt s (t .at) (t .counter) ≡ f → strideOf t f ≡ stride.Past u → (t .at < u .at) × Going s items u
+  past-by : (f : Fragment) (u : Sifted) → nextAt s (t .at) (t .counter) ≡ f → strideOf t f ≡ stride.Past u → (t .at < u .at) × Going s items u × (u .written ≡ t .written)
   unfolding tookOf
   past-by (Literal from to n) u e h =
-      let k : record { written = t .written; counter = t .counter; at = n } ≡ u = cc in subst (λ (z : Sifted). (t .at < z .at) × Going s items z) k (literal-goes from to n e)
+      let k : record { written = t .written; counter = t .counter; at = n } ≡ u = cc in subst (λ (z : Sifted). (t .at < z .at) × Going s items z × (z .written ≡ t .written)) k (literal-goes from to n e)
   past-by (Parameter p i counted n) u e h =
       absurd (took-past (ltb (t .written) 32) p (record { written = t .written + 1; counter = counterAfter counted (t .counter); at = n }) u h)
   past-by End u e h = let z : _≡_ {A = ℕ} 0 1 = cc in absurd (let w : ⊥ = omega arith in w)
   past-by (Bad n) u e h = let z : _≡_ {A = ℕ} 0 1 = cc in absurd (let w : ⊥ = omega arith in w)
 
-  pub going-past : (r : Stride) (u : Sifted) → r ≡ strideOf t (nextAt s (t .at) (t .counter)) → r ≡ stride.Past u → (t .at < u .at) × Going s items u
+  pub going-past : (r : Stride) (u : Sifted) → r ≡ strideOf t (nextAt s (t .at) (t .counter)) → r ≡ stride.Past u → (t .at < u .at) × Going s items u × (u .written ≡ t .written)
   going-past r u e h = past-by (nextAt s (t .at) (t .counter)) u refl (sym e ∙ h)
 
   -- ---- a parameter
@@ -316,17 +317,20 @@ module _ (s : Bytes) (items : List Param) (t : Sifted) (g : Going s items t) whe
   pub record Asked (p : Param) (u : Sifted) : Type 0 where
     pub free : t .written < 32
     pub later : t .at < u .at
-    pub going : (more : List Param) → more ≡ set items (t .written) p → Going s more u
+    pub more : u .written ≡ t .written + 1
+    pub sound : SoundKind (p .kind)
+    pub going : (after : List Param) → after ≡ set items (t .written) p → Going s after u
 
   asked-one : (b : Bool) → ltb (t .written) 32 ≡ b → (q p : Param) (h : Hint) (counted : Bool) (n : ℕ) (u : Sifted) → nextAt s (t .at) (t .counter) ≡ Parameter q h counted n
       → _≡_ {A = Stride} (elim b [ true ↦ stride.Asks q (record { written = t .written + 1; counter = counterAfter counted (t .counter); at = n }) | false ↦ stride.Bad ]) (stride.Asks p u)
       → Asked p u
   asked-one true b q p h counted n u e k =
       let l = ltb-true (t .written) 32 b in
+      let past = parameter-past s (t .at) (t .counter) q h counted n e in
       let x : q ≡ p = cc in
       let y : record { written = t .written + 1; counter = counterAfter counted (t .counter); at = n } ≡ u = cc in
       subst (λ (z : Param). Asked z u) x
-      (subst (Asked q) y (record { free = l; later = parameter-past s (t .at) (t .counter) q h counted n e .0; going = λ more i. parameter-goes q l more i h counted n e }))
+      (subst (Asked q) y (record { free = l; later = past .0; more = refl; sound = past .3; going = λ after i. parameter-goes q l after i h counted n e }))
   asked-one false b q p h counted n u e k = let z : _≡_ {A = ℕ} 0 1 = cc in absurd (let w : ⊥ = omega arith in w)
 
   asked-by : (f : Fragment) (p : Param) (u : Sifted) → nextAt s (t .at) (t .counter) ≡ f → strideOf t f ≡ stride.Asks p u → Asked p u

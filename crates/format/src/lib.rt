@@ -2,6 +2,7 @@
 //
 // `next` is the one reader of a text: decoding and text both walk by it. `scan` is FORMAT, or the parameters as decoding wants
 // them: in the order of their positions, each position once.
+mod codes;
 mod fragments;
 mod hints;
 mod params;
@@ -9,6 +10,9 @@ mod records;
 mod sift;
 mod types;
 
+pub use codes::Lined;
+pub use codes::kind_by;
+pub use codes::line_up;
 pub use fragments::Fragment;
 pub use fragments::Param;
 use fragments::param_at;

@@ -56,8 +56,8 @@ pub enum Typed {
     NoType(usize),
 }
 
-// The type whose name is number k among the names of `type_at`.
-fn kind_of(k: usize) -> Kind
+// Inner: the type whose name is number k among the names of `type_at`.
+pub fn kind_of(k: usize) -> Kind
     ensures { λ r. ⌜ r ≡ kindNo k ⌝ }
 {
     match k {

@@ -1,5 +1,5 @@
 -- What nests: one law for each return of the functions that call each other. Assumes nothing.
-use Prim.Native.Nat.{ℕ, zero, suc, _+_, _-_, _*_, _<_, _≤_}
+use Prim.Native.Nat.{ℕ, suc, _+_, _-_, _*_, _<_, _≤_}
 use mathlib.Core.Path.{_≡_, refl, sym, ap, _∙_, subst}
 use mathlib.Core.Bool.{Bool, true, false}
 use mathlib.Core.Option.{Option, none, some}
@@ -18,10 +18,14 @@ use Rattle.book.proofs.Texts.{found-inside, stored}
 use Rattle.book.specs.declared.Found.{Found}
 use Rattle.book.specs.declared.Found.the-variants as found
 use Rattle.format.specs.Params.{scanOf, scannedOf, blank}
+use Rattle.format.specs.Codes.{paramsBy, LinesUp}
 use Rattle.format.proofs.StepLaws.{answer-good}
+use Rattle.format.proofs.Lining.{lined-up}
 use Rattle.format.specs.declared.types.Kind.{Kind}
 use Rattle.format.specs.declared.fragments.Param.{Param}
 use Rattle.format.specs.declared.params.Scanned.{Scanned}
+use Rattle.format.specs.declared.codes.Lined.{Lined}
+use Rattle.format.specs.declared.codes.Lined.the-variants.{Up}
 use Rattle.values.specs.Values.{countAt}
 use Rattle.values.specs.declared.Count.{Count}
 use Rattle.values.specs.declared.Count.the-variants as count
@@ -229,30 +233,46 @@ module _ (g : Given) (inner : Bytes → ℕ → ℕ → Out) where
   arguments-none ps k row at h = rw (drop-of-length-le ps h)
 
 module _ (d : ℕ) (g : Given) (t : Bytes) (row at : ℕ) where
+  -- by what a scan finds in the text
+  deeper : (o : Option (List Param)) → scanOf t ≡ o
+      → textOf (suc d) g t row at ≡ elim o [ none ↦ refused refusal.Format | some ps ↦ argumentsOf g (textOf d g) ps row at ]
+  unfolding textOf
+  deeper o e = ap (λ (x : Option (List Param)). elim x [ none ↦ refused refusal.Format | some ps ↦ argumentsOf g (textOf d g) ps row at ]) e
+
   pub text-deep : (old new : List ℕ) → d ≡ 0 → Wrote (textOf d g t row at) row old new (Refused refusal.Depth)
   unfolding textOf
   text-deep old new e = wrote-refused _ row old new refusal.Depth (ap (λ (k : ℕ). textOf k g t row at) e)
 
-deeper : (d : ℕ) (g : Given) (t : Bytes) (row at : ℕ) (o : Option (List Param)) → (d ≡ 0 → ⊥) → scanOf t ≡ o
-    → textOf d g t row at ≡ elim o [ none ↦ refused refusal.Format | some ps ↦ argumentsOf g (textOf (d - 1) g) ps row at ]
-unfolding textOf
-deeper zero g t row at o h e = absurd (h refl)
-deeper (suc d) g t row at o h e =
-    let p : d ≡ suc d - 1 = omega arith in
-    ap (λ (x : Option (List Param)). elim x [ none ↦ refused refusal.Format | some ps ↦ argumentsOf g (textOf d g) ps row at ]) e
-    ∙ ap (λ (k : ℕ). elim o [ none ↦ refused refusal.Format | some ps ↦ argumentsOf g (textOf k g) ps row at ]) p
+-- a level that is there
+module _ (d : ℕ) (g : Given) (t : Bytes) (row at : ℕ) (h : d ≡ 0 → ⊥) (old new : List ℕ) (r : Step) where
+  level : textOf d g t row at ≡ textOf (suc (d - 1)) g t row at
+  level = let e : d ≡ suc (d - 1) = omega (arith, h) in ap (λ (k : ℕ). textOf k g t row at) e
+
+  pub text-any : Wrote (textOf (suc (d - 1)) g t row at) row old new r → Wrote (textOf d g t row at) row old new r
+  text-any w = wrote-as _ row old new r _ level w
+
+  pub text-lined : (codes : List ℕ) (x : Lined) (n : ℕ) → LinesUp t codes x → x ≡ Up n
+      → Wrote (argumentsOf g (textOf (d - 1) g) (paramsBy (take n codes) 0) row at) row old new r → Wrote (textOf d g t row at) row old new r
+  text-lined codes x n says e w = wrote-as _ row old new r _ (level ∙ deeper (d - 1) g t row at _ (lined-up t codes x n says e .1)) w
 
 never-good : (o : Option (List Param)) (x : Scanned) → x ≡ scannedOf o → x .bad ≡ true → o ≡ none
 never-good none x e b = refl
 never-good (some ps) x e b = absurd (let z : _≡_ {A = ℕ} 0 1 = cc (sym b ∙ ap (λ (s : Scanned). s .bad) e) in omega arith)
 
 -- a scan's answer: FORMAT, or the parameters that it holds
-module _ (d : ℕ) (g : Given) (t : Bytes) (row at : ℕ) (h : d ≡ 0 → ⊥) (x : Scanned) (is : x ≡ scannedOf (scanOf t)) where
-  pub text-bad : (old new : List ℕ) → x .bad ≡ true → Wrote (textOf d g t row at) row old new (Refused refusal.Format)
-  text-bad old new b = wrote-refused _ row old new refusal.Format (deeper d g t row at none h (never-good (scanOf t) x is b))
+module _ (d : ℕ) (g : Given) (t : Bytes) (row at : ℕ) (x : Scanned) (is : x ≡ scannedOf (scanOf t)) where
+  pub text-bad : (old new : List ℕ) → x .bad ≡ true → Wrote (textOf (suc d) g t row at) row old new (Refused refusal.Format)
+  text-bad old new b = wrote-refused _ row old new refusal.Format (deeper d g t row at none (never-good (scanOf t) x is b))
 
-  pub text-good : x .bad ≡ false → textOf d g t row at ≡ argumentsOf g (textOf (d - 1) g) (take (x .count) (x .items)) row at
-  text-good b = deeper d g t row at _ h (answer-good (scanOf t) x is b .0)
+  pub text-good : x .bad ≡ false → textOf (suc d) g t row at ≡ argumentsOf g (textOf d g) (take (x .count) (x .items)) row at
+  text-good b = deeper d g t row at _ (answer-good (scanOf t) x is b .0)
+
+module _ (t : Bytes) (x : Scanned) (is : x ≡ scannedOf (scanOf t)) (good : x .bad ≡ false) where
+  pub scanned-count : length (take (x .count) (x .items)) ≡ x .count
+  scanned-count = length-take-le (x .count) (x .items) (answer-good (scanOf t) x is good .2)
+
+  pub scanned-kind : (k : ℕ) → k < x .count → getD (x .items) k blank .kind ≡ getD (take (x .count) (x .items)) k blank .kind
+  scanned-kind k h = ap (λ (p : Param). p .kind) (sym (getD-take (x .count) (x .items) k blank h))
 
 -- ---- the loops over elements and over arguments
 
@@ -273,24 +293,18 @@ module _ (g : Given) (inner : Bytes → ℕ → ℕ → Out) (i : ℕ) (t : Byte
       pub elements-refused : (f : Refusal) → r ≡ Refused f → Wrote whole row₀ rows₀ new (Refused f)
       elements-refused f q = run-refused whole _ row₀ rows₀ c rows run _ _ new r (elements-more g inner i t n k (c .row) (c .at) h) w f q
 
-module _ (g : Given) (inner : Bytes → ℕ → ℕ → Out) (t : Bytes) (x : Scanned) (is : x ≡ scannedOf (scanOf t)) (good : x .bad ≡ false)
-    (whole : Out) (row₀ : ℕ) (rows₀ : List ℕ) (c : Cursor) (rows : List ℕ) (k : ℕ)
-    (run : Run whole (argumentsOf g inner (drop k (take (x .count) (x .items)))) row₀ rows₀ c rows) where
-  counted : length (take (x .count) (x .items)) ≡ x .count
-  counted = length-take-le (x .count) (x .items) (answer-good (scanOf t) x is good .2)
+module _ (g : Given) (inner : Bytes → ℕ → ℕ → Out) (ps : List Param) (whole : Out) (row₀ : ℕ) (rows₀ : List ℕ) (c : Cursor) (rows : List ℕ) (k : ℕ)
+    (run : Run whole (argumentsOf g inner (drop k ps)) row₀ rows₀ c rows) where
+  pub arguments-end : length ps ≤ k → Wrote whole row₀ rows₀ rows (Next c)
+  arguments-end h = run-end whole _ row₀ rows₀ c rows run (arguments-none g inner ps k (c .row) (c .at) h)
 
-  pub arguments-end : x .count ≤ k → Wrote whole row₀ rows₀ rows (Next c)
-  arguments-end h = run-end whole _ row₀ rows₀ c rows run (arguments-none g inner (take (x .count) (x .items)) k (c .row) (c .at) (omega (arith, counted)))
-
-  module _ (h : k < x .count) (kind : Kind) (at-k : kind ≡ getD (x .items) k blank .kind) (new : List ℕ) (r : Step) (w : Wrote (valueOf g inner kind (c .row) (c .at)) (c .row) rows new r) where
-    next : argumentsOf g inner (drop k (take (x .count) (x .items))) (c .row) (c .at)
-        ≡ andThen (valueOf g inner kind (c .row) (c .at)) (argumentsOf g inner (drop (k + 1) (take (x .count) (x .items)))) (c .row)
+  module _ (h : k < length ps) (kind : Kind) (at-k : kind ≡ getD ps k blank .kind) (new : List ℕ) (r : Step) (w : Wrote (valueOf g inner kind (c .row) (c .at)) (c .row) rows new r) where
+    next : argumentsOf g inner (drop k ps) (c .row) (c .at) ≡ andThen (valueOf g inner kind (c .row) (c .at)) (argumentsOf g inner (drop (k + 1) ps)) (c .row)
     next =
-        arguments-more g inner (take (x .count) (x .items)) k (c .row) (c .at) (omega (arith, counted))
-        ∙ ap (λ (z : Kind). andThen (valueOf g inner z (c .row) (c .at)) (argumentsOf g inner (drop (k + 1) (take (x .count) (x .items)))) (c .row))
-        (ap (λ (p : Param). p .kind) (getD-take (x .count) (x .items) k blank h) ∙ sym at-k)
+        arguments-more g inner ps k (c .row) (c .at) h
+        ∙ ap (λ (z : Kind). andThen (valueOf g inner z (c .row) (c .at)) (argumentsOf g inner (drop (k + 1) ps)) (c .row)) (sym at-k)
 
-    pub arguments-again : (e : Cursor) → r ≡ Next e → Run whole (argumentsOf g inner (drop (k + 1) (take (x .count) (x .items)))) row₀ rows₀ e new
+    pub arguments-again : (e : Cursor) → r ≡ Next e → Run whole (argumentsOf g inner (drop (k + 1) ps)) row₀ rows₀ e new
     arguments-again e q = run-more whole _ row₀ rows₀ c rows run _ _ new r next w e q
 
     pub arguments-refused : (f : Refusal) → r ≡ Refused f → Wrote whole row₀ rows₀ new (Refused f)

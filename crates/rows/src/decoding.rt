@@ -7,9 +7,11 @@ ghost use Prim.Native.Nat.{suc, _+_, _*_, _≤_, _<_};
 ghost use lib.ListN.{length};
 ghost use Rattle.answer.specs.declared.Verdict.the-variants.{Ok};
 ghost use Rattle.book.specs.Book.{checked};
+ghost use Rattle.format.specs.Codes.{paramsBy};
 ghost use Rattle.format.proofs.Progress.{SoundKind};
+ghost use Rattle.format.proofs.Prepared.{Sounds};
 ghost use Rattle.rows.specs.Rows.{width, over, claim};
-ghost use Rattle.rows.specs.Decoding.{variantAt, under, formatOf, elementOf, elementsOf, sliceOf, itemsOf, sequenceOf, valueOf, textOf};
+ghost use Rattle.rows.specs.Decoding.{variantAt, under, formatOf, elementOf, elementsOf, sliceOf, itemsOf, sequenceOf, valueOf, argumentsOf, textOf};
 ghost use Rattle.rows.specs.Steps.{by, Wrote, turnedOf, WroteItem, WroteItems};
 use crate::kinds;
 use crate::placing::Cursor;
@@ -26,6 +28,7 @@ use crate::reading::sort_at;
 use crate::reading::variant_at;
 use answer::Refusal;
 use format::Kind;
+use format::Lined;
 
 // The first three words of a row that holds others.
 pub struct Head {
@@ -385,6 +388,75 @@ fn argument(
     }
 }
 
+// The arguments of a text whose parameters stand in order, by the numbers of their types.
+fn in_turn(
+    book: &[u8],
+    message: &[u8],
+    rows: &mut [u64],
+    cap: usize,
+    c: Cursor,
+    depth: usize,
+    codes: &[usize],
+) -> Step
+    requires { ⌜ checked (now book) ≡ Ok ⌝ }
+    requires { ⌜ cap * width ≤ length (now rows) ⌝ }
+    requires { ⌜ Sounds (paramsBy (now codes) 0) ⌝ }
+    ensures { λ r. ⌜ Wrote (argumentsOf (by (now (book .entry)) (now (message .entry)) cap) (textOf depth (by (now (book .entry)) (now (message .entry)) cap)) (paramsBy (now (codes .entry)) 0) (c .row) (c .at)) (c .row) (now (rows .entry)) (now (rows .exit)) r ⌝ }
+{
+    let mut stand = c;
+    let mut k = 0;
+    while k < codes.len() {
+        let kind = format::kind_by(codes[k]);
+        match argument(book, message, rows, cap, stand, depth, kind) {
+            Step::Next(e) => {
+                stand = e;
+            }
+            Step::Refused(m) => {
+                return Step::Refused(m);
+            }
+        }
+        k += 1;
+    }
+    Step::Next(stand)
+}
+
+// The arguments of any text, whose parameters are put in the order of their positions; `depth` counts the levels below it.
+fn by_position(
+    book: &[u8],
+    message: &[u8],
+    rows: &mut [u64],
+    cap: usize,
+    c: Cursor,
+    depth: usize,
+    text: &[u8],
+) -> Step
+    requires { ⌜ checked (now book) ≡ Ok ⌝ }
+    requires { ⌜ cap * width ≤ length (now rows) ⌝ }
+    ensures { λ r. ⌜ Wrote (textOf (suc depth) (by (now (book .entry)) (now (message .entry)) cap) (now (text .entry)) (c .row) (c .at)) (c .row) (now (rows .entry)) (now (rows .exit)) r ⌝ }
+{
+    let scanned = format::scan(text);
+    if scanned.bad {
+        return Step::Refused(Refusal::Format);
+    }
+    let items = scanned.items;
+    let mut stand = c;
+    let mut k = 0;
+    while k < scanned.count {
+        let p = items[k];
+        let kind = p.kind;
+        match argument(book, message, rows, cap, stand, depth, kind) {
+            Step::Next(e) => {
+                stand = e;
+            }
+            Step::Refused(m) => {
+                return Step::Refused(m);
+            }
+        }
+        k += 1;
+    }
+    Step::Next(stand)
+}
+
 // Inner: the arguments of a text, with so many levels of texts allowed from here on.
 pub fn arguments(
     book: &[u8],
@@ -402,25 +474,9 @@ pub fn arguments(
     if depth == 0 {
         return Step::Refused(Refusal::Depth);
     }
-    let scanned = format::scan(text);
-    if scanned.bad {
-        return Step::Refused(Refusal::Format);
+    let mut codes = [0; 32];
+    match format::line_up(text, &mut codes) {
+        Lined::Up(n) => in_turn(book, message, rows, cap, c, depth - 1, &codes[..n]),
+        Lined::Not => by_position(book, message, rows, cap, c, depth - 1, text),
     }
-    let items = scanned.items;
-    let mut stand = c;
-    let mut k = 0;
-    while k < scanned.count {
-        let p = items[k];
-        let kind = p.kind;
-        match argument(book, message, rows, cap, stand, depth - 1, kind) {
-            Step::Next(e) => {
-                stand = e;
-            }
-            Step::Refused(m) => {
-                return Step::Refused(m);
-            }
-        }
-        k += 1;
-    }
-    Step::Next(stand)
 }
