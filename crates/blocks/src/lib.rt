@@ -15,6 +15,7 @@ ghost use Rattle.blocks.specs.Blocks.{hasZero};
 ghost use Rattle.blocks.specs.Promises.{Decodes, Encodes};
 use answer::Outcome;
 use answer::Refusal;
+pub use decoding::has_zero;
 
 // Inner: the message that a coding without a zero stands for, for a caller who has looked.
 pub fn decode_zero_free(coding: &[u8], out: &mut [u8]) -> Outcome
@@ -39,7 +40,7 @@ pub fn decode(coding: &[u8], out: &mut [u8]) -> Outcome
     if answer::LIMIT < coding.len() {
         return answer::refuse(out, Refusal::Size);
     }
-    if decoding::has_zero(coding) {
+    if has_zero(coding) {
         return answer::refuse(out, Refusal::Zero);
     }
     decode_zero_free(coding, out)

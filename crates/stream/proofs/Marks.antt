@@ -152,23 +152,6 @@ hasZero-end [] = refl
 hasZero-end (zero ∷ a) = refl
 hasZero-end (suc x ∷ a) = zero-later x (a ++ zero ∷ []) ∙ hasZero-end a
 
--- a look at all the bytes: what was seen so far is whether the first i have a zero
-abbrev pub Looked : Bytes → ℕ → Bool → Type 0
-Looked l i seen = (i ≤ length l) × (seen ≡ hasZero (take i l))
-
-pub looked-none : (l : Bytes) → Looked l 0 false
-unfolding hasZero
-looked-none l = (omega arith, refl)
-
-pub looked-zero : (l : Bytes) (i : ℕ) → i < length l → getD l i 0 ≡ 0 → Looked l (suc i) true
-looked-zero l i h z = (h, sym (ap hasZero (take-suc l i 0 h ∙ ap (λ (x : ℕ). take i l ++ x ∷ []) z) ∙ hasZero-end (take i l)))
-
-pub looked-more : (l : Bytes) (i : ℕ) (seen : Bool) → i < length l → getD l i 0 ≢ 0 → Looked l i seen → Looked l (suc i) seen
-looked-more l i seen h x s = (h, s .1 ∙ sym (ap hasZero (take-suc l i 0 h) ∙ hasZero-snoc (take i l) (getD l i 0) x))
-
-pub looked-all : (l : Bytes) (i : ℕ) (seen : Bool) → length l ≤ i → Looked l i seen → seen ≡ hasZero l
-looked-all l i seen h s = s .1 ∙ ap hasZero (take-all i l h)
-
 -- ---- zeros in front
 
 -- a search past the zeros in front: it stands at i, and what is left there is trimmed to the same

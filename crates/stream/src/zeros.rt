@@ -6,21 +6,6 @@ ghost use lib.ListN.{length, take, drop};
 ghost use Rattle.blocks.specs.Blocks.{hasZero};
 ghost use Rattle.stream.specs.Stream.{before, trim, closed};
 
-// Whether a zero stands among the bytes, with no exit before the last: so a compiler takes many bytes at a time.
-fn among(s: &[u8]) -> bool
-    ensures { λ r. ⌜ r ≡ hasZero (now (s .entry)) ⌝ }
-{
-    let mut seen = false;
-    let mut i = 0;
-    while i < s.len() {
-        if s[i] == 0 {
-            seen = true;
-        }
-        i += 1;
-    }
-    seen
-}
-
 // How many bytes can be passed by sixteens, with no zero among them.
 fn sixteens(s: &[u8]) -> usize
     ensures { λ r. ⌜ (r ≤ length (now (s .entry))) × (hasZero (take r (now (s .entry))) ≡ false) ⌝ }
@@ -28,7 +13,7 @@ fn sixteens(s: &[u8]) -> usize
     let mut i = 0;
     while 16 <= s.len() - i {
         let end = i + 16;
-        if among(&s[i..end]) {
+        if blocks::has_zero(&s[i..end]) {
             return i;
         }
         i = end;

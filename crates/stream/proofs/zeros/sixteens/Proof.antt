@@ -27,5 +27,5 @@ sixteens-spec =
     (λ c κs. tt)
     (λ c. c .before .before .before .before .loop .inv)
     (λ c. omega arith)
-    (λ c. free-more _ _ 16 (omega arith) (c .before .among .ensures) (c .if1 .left) (c .before .before .before .before .loop .inv))
+    (λ c. free-more _ _ 16 (omega arith) (c .before .has-zero .ensures) (c .if1 .left) (c .before .before .before .before .loop .inv))
     (λ c. c .before .loop .inv))
