@@ -7,7 +7,7 @@ use native.Mathlib.Omega.{arith}
 use lib.ListN.{length, take, drop, length-append}
 use lib.Seq.{sets, sets-eq}
 use lib.Dec.{leb}
-use borrow.Author.Tests.{lt-ltb, le-ltb}
+use borrow.Author.Tests.{lt-ltb, le-ltb, lt-leb, le-leb, leb-true}
 use Rattle.answer.specs.Answer.{limit, zeros}
 use Rattle.answer.specs.declared.Refusal.{Refusal}
 use Rattle.answer.specs.declared.Refusal.the-variants as refusal
@@ -24,7 +24,7 @@ use Rattle.book.specs.declared.Clock.the-variants as time
 use Rattle.values.specs.Values.{little, countAt}
 use Rattle.values.specs.declared.Count.the-variants as count
 use Rattle.rows.specs.Rows.{Row, width, flat, Out, refused, done}
-use Rattle.rows.specs.Decoding.{Given, textOf, levels, Frame, none-of, frame, stampBy, wholeBy, messageBy, afterStamp, frameOf}
+use Rattle.rows.specs.Decoding.{Given, textOf, levels, topOf, Frame, none-of, frame, stampBy, wholeBy, messageBy, afterStamp, frameOf}
 use Rattle.rows.specs.Answers.{capOf, given, judgedBy, decodeOf, decodedOf, rowsAfter}
 use Rattle.rows.specs.Steps.{by, Wrote, bodyBy, WroteAll}
 use Rattle.rows.specs.declared.placing.Cursor.{Cursor}
@@ -65,21 +65,45 @@ module _ (g : Given) (at : ℕ) (old new : List ℕ) (x : Clock) (is : x ≡ clo
   pub clock-part : checked (g .book) ≡ verdict.Ok → (start size : ℕ) → x ≡ time.At start size → start + size < length (g .book)
   clock-part good start size e = clock-inside (g .book) good (sym is ∙ e) .within
 
+-- ---- the lookup of the message's index
+
+module _ (b m : Bytes) where
+  pub top-there : 2 ≤ length m → topOf b m ≡ find b (little m 0 2)
+  unfolding topOf
+  top-there h = rw (le-leb 2 (length m) h, topOf)
+
+  pub top-short : countAt m 0 2 ≡ count.Short → found.Absent ≡ topOf b m
+  unfolding countAt topOf
+  top-short e =
+      by-test (leb 2 (length m))
+      (λ k. absurd (let z : count.Is (little m 0 2) 2 ≡ count.Short = sym (rw (k, countAt)) ∙ e in let y : _≡_ {A = ℕ} 0 1 = cc in omega arith))
+      (λ k. rw (k, topOf))
+
+  pub top-found : (i at : ℕ) (x : Found) → countAt m 0 2 ≡ count.Is i at → x ≡ find b i → x ≡ topOf b m
+  unfolding countAt topOf
+  top-found i at x e is =
+      by-test (leb 2 (length m))
+      (λ k. let z : count.Is (little m 0 2) 2 ≡ count.Is i at = rw (k, countAt) at e in let p : little m 0 2 ≡ i = cc in rw (k, topOf) (is ∙ ap (find b) (sym p)))
+      (λ k. absurd (let z : count.Short ≡ count.Is i at = rw (k, countAt) at e in let y : _≡_ {A = ℕ} 0 1 = cc in omega arith))
+
+  pub top-part : checked b ≡ verdict.Ok → (x : Found) → x ≡ topOf b m → (start size : ℕ) (level : Bool) → x ≡ found.At start size level → start + size < length b
+  unfolding topOf
+  top-part good x is start size level e =
+      by-test (leb 2 (length m))
+      (λ k. found-inside b (little m 0 2) good (sym (top-there (leb-true 2 (length m) k)) ∙ sym is ∙ e) .within)
+      (λ k. absurd (let z : found.Absent ≡ found.At start size level = sym (rw (k, topOf)) ∙ sym is ∙ e in let y : _≡_ {A = ℕ} 0 1 = cc in omega arith))
+
 -- ---- the message's arguments
 
-module _ (g : Given) (i row at : ℕ) (old new : List ℕ) (x : Found) (is : x ≡ find (g .book) i) where
+module _ (g : Given) (row at : ℕ) (old new : List ℕ) (x : Found) where
   pub body-found : (start size : ℕ) (level : Bool) (r : Step) → x ≡ found.At start size level
-      → Wrote (textOf levels g (take (start + size - start) (drop start (g .book))) row at) row old new r
-      → Wrote (bodyBy g (find (g .book) i) row at) row old new r
+      → Wrote (textOf levels g (take (start + size - start) (drop start (g .book))) row at) row old new r → Wrote (bodyBy g x row at) row old new r
   body-found start size level r e w =
-      wrote-as _ row old new r _ (ap (λ (f : Found). bodyBy g f row at) (sym is ∙ e))
+      wrote-as _ row old new r _ (ap (λ (f : Found). bodyBy g f row at) e)
       (subst (λ (t : Bytes). Wrote (textOf levels g t row at) row old new r) (stored-part (g .book) start size) w)
 
-  pub body-absent : x ≡ found.Absent → Wrote (bodyBy g (find (g .book) i) row at) row old new (Refused refusal.Malformed)
-  body-absent e = wrote-refused _ row old new refusal.Malformed (ap (λ (f : Found). bodyBy g f row at) (sym is ∙ e))
-
-  pub found-part : checked (g .book) ≡ verdict.Ok → (start size : ℕ) (level : Bool) → x ≡ found.At start size level → start + size < length (g .book)
-  found-part good start size level e = found-inside (g .book) i good (sym is ∙ e) .within
+  pub body-absent : x ≡ found.Absent → Wrote (bodyBy g x row at) row old new (Refused refusal.Malformed)
+  body-absent e = wrote-refused _ row old new refusal.Malformed (ap (λ (f : Found). bodyBy g f row at) e)
 
 -- ---- the whole
 
@@ -90,49 +114,40 @@ module _ (g : Given) (old : List ℕ) where
   framed : (f : Frame) (new : List ℕ) → frameOf g ≡ f → WroteAll f old new → Framed new (decodedOf f)
   framed f new e w = (ap decodedOf (sym e), subst (λ (k : Frame). WroteAll k old new) (sym e) w)
 
-  pub frame-short : (new : List ℕ) → countAt (g .message) 0 2 ≡ count.Short → Framed new (answered.Refused refusal.Eof)
-  unfolding frameOf countAt
-  frame-short new e = framed (none-of refusal.Eof) new short tt
-    where
-      short : frameOf g ≡ none-of refusal.Eof
-      short =
-          by-test (leb 2 (length (g .message)))
-          (λ k. absurd (let z : count.Is (little (g .message) 0 2) 2 ≡ count.Short = sym (rw (k, countAt)) ∙ e in let y : _≡_ {A = ℕ} 0 1 = cc in omega arith))
-          (λ k. rw (k, frameOf))
+  pub frame-short : (new : List ℕ) → length (g .message) < 2 → Framed new (answered.Refused refusal.Eof)
+  unfolding frameOf
+  frame-short new h = framed (none-of refusal.Eof) new (rw (lt-leb 2 (length (g .message)) h, frameOf)) tt
 
-  module _ (i at : ℕ) (e : countAt (g .message) 0 2 ≡ count.Is i at) where
-    frame-is : frameOf g ≡ afterStamp g i (stampBy g (clock (g .book)) at)
-    unfolding frameOf countAt
-    frame-is =
-        by-test (leb 2 (length (g .message)))
-        (λ k.
-        let z : count.Is (little (g .message) 0 2) 2 ≡ count.Is i at = rw (k, countAt) at e in
-        let p : little (g .message) 0 2 ≡ i = cc in
-        let q : 2 ≡ at = cc in
-        rw (k, frameOf) (ap₂ (λ (j n : ℕ). afterStamp g j (stampBy g (clock (g .book)) n)) p q))
-        (λ k. absurd (let z : count.Short ≡ count.Is i at = rw (k, countAt) at e in let y : _≡_ {A = ℕ} 0 1 = cc in omega arith))
+  module _ (long : 2 ≤ length (g .message)) (x : Found) (is : x ≡ topOf (g .book) (g .message)) where
+    looked-up : find (g .book) (little (g .message) 0 2) ≡ x
+    looked-up = sym (is ∙ top-there (g .book) (g .message) long)
 
-    module _ (mid : List ℕ) (r : Step) (w : Wrote (stampBy g (clock (g .book)) at) 0 old mid r) where
+    frame-is : frameOf g ≡ afterStamp g (little (g .message) 0 2) (stampBy g (clock (g .book)) 2)
+    unfolding frameOf
+    frame-is = rw (le-leb 2 (length (g .message)) long, frameOf)
+
+    module _ (mid : List ℕ) (r : Step) (w : Wrote (stampBy g (clock (g .book)) 2) 0 old mid r) where
       pub stamp-refused : (f : Refusal) → r ≡ Refused f → Framed mid (answered.Refused f)
-      stamp-refused f q = framed (none-of f) mid (frame-is ∙ ap (afterStamp g i) (was-refused _ 0 old mid f w q)) tt
+      stamp-refused f q = framed (none-of f) mid (frame-is ∙ ap (afterStamp g (little (g .message) 0 2)) (was-refused _ 0 old mid f w q)) tt
 
       message-is : (f : Found) (stamp : List Row) (n : ℕ) → messageBy g f stamp n ≡ wholeBy stamp (bodyBy g f (length stamp) n)
       message-is found.Absent stamp n = refl
       message-is (found.At start size level) stamp n = refl
 
-      module _ (c : Cursor) (q : r ≡ Next c) (new : List ℕ) (s : Step) (v : Wrote (bodyBy g (find (g .book) i) (c .row) (c .at)) (c .row) mid new s) where
-        first : WentOn (stampBy g (clock (g .book)) at) 0 old mid c
+      module _ (c : Cursor) (q : r ≡ Next c) (new : List ℕ) (s : Step) (v : Wrote (bodyBy g x (c .row) (c .at)) (c .row) mid new s) where
+        first : WentOn (stampBy g (clock (g .book)) 2) 0 old mid c
         first = went-on _ 0 old mid c w q
 
         counts : length (first .rows) ≡ c .row
         counts = omega (arith, first .place)
 
-        through : (o : Out) → bodyBy g (find (g .book) i) (c .row) (c .at) ≡ o → frameOf g ≡ wholeBy (first .rows) o
+        through : (o : Out) → bodyBy g x (c .row) (c .at) ≡ o → frameOf g ≡ wholeBy (first .rows) o
         through o p =
             frame-is
-            ∙ ap (afterStamp g i) (first .out)
-            ∙ message-is (find (g .book) i) (first .rows) (c .at)
-            ∙ ap (λ (n : ℕ). wholeBy (first .rows) (bodyBy g (find (g .book) i) n (c .at))) counts
+            ∙ ap (afterStamp g (little (g .message) 0 2)) (first .out)
+            ∙ ap (λ (f : Found). messageBy g f (first .rows) (c .at)) looked-up
+            ∙ message-is x (first .rows) (c .at)
+            ∙ ap (λ (n : ℕ). wholeBy (first .rows) (bodyBy g x n (c .at))) counts
             ∙ ap (wholeBy (first .rows)) p
 
         pub body-refused : (f : Refusal) → s ≡ Refused f → Framed new (answered.Refused f)

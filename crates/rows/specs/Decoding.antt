@@ -194,6 +194,10 @@ module _ (g : Given) (inner : Bytes → ℕ → ℕ → Out) where
 
 -- ==== a whole message ====
 
+-- the lookup of the index that a message begins with: absent where the message has no index
+unfoldable pub topOf : Bytes → Bytes → Found
+topOf b m = elim (leb 2 (length m)) [ true ↦ find b (little m 0 2) | false ↦ found.Absent ]
+
 -- the arguments of a text, with d levels allowed from here on: DEPTH before FORMAT, and FORMAT before the first argument
 unfoldable pub textOf : ℕ → Given → Bytes → ℕ → ℕ → Out
 textOf zero g t row at = refused refusal.Depth

@@ -1,11 +1,11 @@
-// A whole message: the index, the timestamp's arguments, the lookup, the arguments.
+// A whole message: the index with its lookup, the timestamp's arguments, the arguments.
 ghost use mathlib.Core.Path.{_≡_};
 ghost use Prim.Native.Nat.{_*_, _≤_};
 ghost use lib.ListN.{length};
 ghost use Rattle.answer.specs.declared.Verdict.the-variants.{Ok};
-ghost use Rattle.book.specs.Book.{checked, clock, find};
+ghost use Rattle.book.specs.Book.{checked, clock};
 ghost use Rattle.rows.specs.Rows.{width};
-ghost use Rattle.rows.specs.Decoding.{stampBy, frameOf};
+ghost use Rattle.rows.specs.Decoding.{topOf, stampBy, frameOf};
 ghost use Rattle.rows.specs.Answers.{capOf, given, decodedOf};
 ghost use Rattle.rows.specs.Steps.{by, Wrote, bodyBy, WroteAll};
 use crate::decoding::arguments;
@@ -25,6 +25,9 @@ pub enum Decoded {
 
 // At most this many rows are written, however many words are lent.
 const MOST: usize = 1024;
+
+// A message begins with an index of so many bytes.
+const INDEX: usize = 2;
 
 // Texts nest to depth 16, and the outermost is 0.
 const LEVELS: usize = 17;
@@ -56,13 +59,25 @@ fn stamp(book: &[u8], message: &[u8], rows: &mut [u64], cap: usize, at: usize) -
     }
 }
 
-// The arguments of an index, which may have any tag.
-fn body(book: &[u8], message: &[u8], rows: &mut [u64], cap: usize, c: Cursor, index: u64) -> Step
+// Inner: what a checked book has for the index that a message begins with.
+pub fn top(book: &[u8], message: &[u8]) -> Found
+    requires { ⌜ checked (now book) ≡ Ok ⌝ }
+    ensures { λ r. ⌜ r ≡ topOf (now (book .entry)) (now (message .entry)) ⌝ }
+{
+    let Count::Is(index, _) = values::count_at(message, 0, INDEX) else {
+        return Found::Absent;
+    };
+    book::find(book, index as usize)
+}
+
+// The arguments of the entry that was found, which may have any tag.
+fn body(book: &[u8], message: &[u8], rows: &mut [u64], cap: usize, c: Cursor, top: Found) -> Step
     requires { ⌜ checked (now book) ≡ Ok ⌝ }
     requires { ⌜ cap * width ≤ length (now rows) ⌝ }
-    ensures { λ r. ⌜ Wrote (bodyBy (by (now (book .entry)) (now (message .entry)) cap) (find (now (book .entry)) index) (c .row) (c .at)) (c .row) (now (rows .entry)) (now (rows .exit)) r ⌝ }
+    requires { ⌜ top ≡ topOf (now book) (now message) ⌝ }
+    ensures { λ r. ⌜ Wrote (bodyBy (by (now (book .entry)) (now (message .entry)) cap) top (c .row) (c .at)) (c .row) (now (rows .entry)) (now (rows .exit)) r ⌝ }
 {
-    match book::find(book, index as usize) {
+    match top {
         Found::At(start, size, _) => arguments(
             book,
             message,
@@ -76,20 +91,21 @@ fn body(book: &[u8], message: &[u8], rows: &mut [u64], cap: usize, c: Cursor, in
     }
 }
 
-// Inner: a message's rows; what a refusal leaves is not zeroed yet.
-pub fn frame(book: &[u8], message: &[u8], rows: &mut [u64]) -> Decoded
+// Inner: a message's rows, by the entry that was found for its index; what a refusal leaves is not zeroed yet.
+pub fn frame(book: &[u8], message: &[u8], rows: &mut [u64], top: Found) -> Decoded
     requires { ⌜ checked (now book) ≡ Ok ⌝ }
+    requires { ⌜ top ≡ topOf (now book) (now message) ⌝ }
     ensures { λ r. ⌜ r ≡ decodedOf (frameOf (given (now (book .entry)) (now (message .entry)) (length (now (rows .entry))))) ⌝ }
     ensures { λ _. ⌜ WroteAll (frameOf (given (now (book .entry)) (now (message .entry)) (length (now (rows .entry))))) (now (rows .entry)) (now (rows .exit)) ⌝ }
 {
-    let cap = capacity(rows.len());
-    let Count::Is(index, at) = values::count_at(message, 0, 2) else {
+    if message.len() < INDEX {
         return Decoded::Refused(Refusal::Eof);
-    };
-    match stamp(book, message, rows, cap, at) {
+    }
+    let cap = capacity(rows.len());
+    match stamp(book, message, rows, cap, INDEX) {
         Step::Next(c) => {
             let first = c.row;
-            match body(book, message, rows, cap, c, index) {
+            match body(book, message, rows, cap, c, top) {
                 Step::Next(e) => Decoded::Done(first, e.row, e.at),
                 Step::Refused(m) => Decoded::Refused(m),
             }

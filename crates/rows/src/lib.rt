@@ -1,7 +1,7 @@
 // Messages decoded into rows of four words, and the strings that rows name.
 //
-// `decode` checks the book and decodes a message by it; `decode_checked` does so by a book that was checked. `string` shows what a row's
-// words name, a part of the message or of the book.
+// `decode` checks the book and decodes a message by it; `decode_checked` does so by a book that was checked, and `decode_found` where the
+// message's entry was looked up already. `string` shows what a row's words name, a part of the message or of the book.
 mod decoding;
 mod frames;
 pub mod kinds;
@@ -14,12 +14,14 @@ ghost use lib.ListN.{length};
 ghost use Rattle.answer.specs.Answer.{zeros};
 ghost use Rattle.answer.specs.declared.Verdict.the-variants.{Ok};
 ghost use Rattle.book.specs.Book.{checked};
-ghost use Rattle.rows.specs.Decoding.{frameOf};
+ghost use Rattle.rows.specs.Decoding.{topOf, frameOf};
 ghost use Rattle.rows.specs.Answers.{given, decodeOf, decodedOf, rowsAfter};
 use answer::Refusal;
 use answer::Verdict;
+use book::Found;
 pub use frames::Decoded;
 use frames::frame;
+pub use frames::top;
 pub use placing::WIDTH;
 pub use strings::Shown;
 pub use strings::shown_at;
@@ -34,16 +36,27 @@ fn refuse(rows: &mut [u64], r: Refusal) -> Decoded
     Decoded::Refused(r)
 }
 
+// Inner: a message decoded by a checked book and the entry that `top` found in it, however long the message is.
+pub fn decode_found(book: &[u8], message: &[u8], rows: &mut [u64], top: Found) -> Decoded
+    requires { ⌜ checked (now book) ≡ Ok ⌝ }
+    requires { ⌜ top ≡ topOf (now book) (now message) ⌝ }
+    ensures { λ r. ⌜ r ≡ decodedOf (frameOf (given (now (book .entry)) (now (message .entry)) (length (now (rows .entry))))) ⌝ }
+    ensures { λ _. ⌜ now (rows .exit) ≡ rowsAfter (frameOf (given (now (book .entry)) (now (message .entry)) (length (now (rows .entry))))) (now (rows .entry)) ⌝ }
+{
+    match frame(book, message, rows, top) {
+        Decoded::Done(stamp, all, consumed) => Decoded::Done(stamp, all, consumed),
+        Decoded::Refused(r) => refuse(rows, r),
+    }
+}
+
 // Inner: a message decoded by a checked book, however long the message is.
 pub fn decode_checked(book: &[u8], message: &[u8], rows: &mut [u64]) -> Decoded
     requires { ⌜ checked (now book) ≡ Ok ⌝ }
     ensures { λ r. ⌜ r ≡ decodedOf (frameOf (given (now (book .entry)) (now (message .entry)) (length (now (rows .entry))))) ⌝ }
     ensures { λ _. ⌜ now (rows .exit) ≡ rowsAfter (frameOf (given (now (book .entry)) (now (message .entry)) (length (now (rows .entry))))) (now (rows .entry)) ⌝ }
 {
-    match frame(book, message, rows) {
-        Decoded::Done(stamp, all, consumed) => Decoded::Done(stamp, all, consumed),
-        Decoded::Refused(r) => refuse(rows, r),
-    }
+    let found = top(book, message);
+    decode_found(book, message, rows, found)
 }
 
 // A message decoded by a book.

@@ -16,14 +16,17 @@ use Rattle.answer.specs.declared.Outcome.the-variants as outcome
 use Rattle.answer.specs.declared.Verdict.{Verdict}
 use Rattle.answer.specs.declared.Verdict.the-variants as verdict
 use Rattle.parts.proofs.Places.{by-test}
-use Rattle.book.specs.Book.{checked}
+use Rattle.book.specs.Book.{checked, find}
+use Rattle.book.specs.declared.Found.{Found}
+use Rattle.values.specs.Values.{little}
 use Rattle.put.specs.Put.{Bytes}
 use Rattle.rows.specs.Rows.{Row, flat}
-use Rattle.rows.specs.Decoding.{Frame, none-of, frame, frameOf}
+use Rattle.rows.specs.Decoding.{topOf, Frame, none-of, frame, frameOf}
 use Rattle.rows.specs.Answers.{capOf, given, decodeOf, judgedBy, decodedOf, rowsAfter}
 use Rattle.rows.specs.declared.frames.Decoded.{Decoded}
 use Rattle.rows.specs.declared.frames.Decoded.the-variants as decoded
 use Rattle.rows.proofs.Bounds.{Fits, FitsFrame, frame-fits}
+use Rattle.rows.proofs.Framing.{top-there}
 use Rattle.text.specs.Prints.{Text}
 use Rattle.text.specs.Walk.{countOf}
 use Rattle.text.specs.Text.{askedOf}
@@ -112,12 +115,15 @@ module _ (book message rows rows′ : List ℕ) (d : Decoded) (ed : d ≡ decode
       let k = few in
       (omega (arith, k .0), omega arith)
 
-  pub indexed : 2 ≤ length message
+  indexed : 2 ≤ length message
   unfolding frameOf
   indexed = by-test (leb 2 (length message)) (λ t. leb-true 2 (length message) t) (λ t. absurd (clash t (found .is)))
     where
       clash : leb 2 (length message) ≡ false → frameOf (given book message (length rows)) ≡ frame stamp (found .rs) (found .at) → ⊥
       clash t g = let h : none-of refusal.Eof ≡ frame stamp (found .rs) (found .at) = sym (rw (t, frameOf)) ∙ g in let z : _≡_ {A = ℕ} 0 1 = cc in omega arith
+
+  pub looked-up : (x : Found) → x ≡ topOf book message → x ≡ find book (little message 0 2)
+  looked-up x is = is ∙ top-there book message indexed
 
   pub texts-shown : {rows″ : List ℕ} {out out′ : Bytes} {r a : Outcome} (which : Which) → Shows (askedOf which book message (take (all * 4) rows′) stamp) out out′ r
       → a ≡ r → rows″ ≡ keptBy r rows′ → Texts which book message (frameOf (given book message (length rows))) rows rows″ out out′ a

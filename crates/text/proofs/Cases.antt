@@ -1,12 +1,12 @@
 -- Lists, sequences and byte strings: one equation a case. Assumes nothing.
 use Prim.Native.Nat.{ℕ, zero, suc, _+_, _-_, _≤_, _<_}
-use mathlib.Core.Path.{_≡_, refl, sym, _∙_}
+use mathlib.Core.Path.{_≡_, refl, sym, ap, ap₂, _∙_}
 use mathlib.Core.Bool.{Bool, true, false, _&&_, not}
 use mathlib.Core.List.{List, [], _∷_}
 use mathlib.Core.Option.{none, some}
 use native.Mathlib.Omega.{arith}
 use lib.Dec.{ltb, eqb}
-use borrow.Author.Tests.{lt-ltb, le-ltb, eq-eqb, ne-eqb}
+use borrow.Author.Tests.{lt-ltb, le-ltb, eq-eqb, ne-eqb, eqb-true}
 use Rattle.parts.specs.Parts.{bytes, same}
 use Rattle.put.specs.Put.{Bytes}
 use Rattle.put.specs.Strings.{escaped}
@@ -15,8 +15,9 @@ use Rattle.format.specs.declared.types.Kind.the-variants as kind
 use Rattle.format.specs.declared.hints.Hint.{Hint}
 use Rattle.format.specs.declared.hints.Hint.the-variants as hint
 use Rattle.text.specs.Hints.{sortOf}
+use Rattle.text.specs.Leaves.{interned}
 use Rattle.text.specs.Walk.{countOf, wordOf, nextOf}
-use Rattle.text.specs.Text.{Inner, before, join, isItem, shownBy, between, eachOf, someByte, byteOf, bytesOf, quotedOf, plainOf, isQuoted, listOf}
+use Rattle.text.specs.Text.{Inner, before, join, isItem, chosen, shownBy, between, eachOf, someByte, byteOf, bytesOf, quotedOf, plainOf, isQuoted, listOf}
 use Rattle.text.proofs.Walks.{word-past}
 
 -- ---- rows side by side
@@ -46,7 +47,31 @@ module _ (inner : Inner) (rows : List ℕ) (seen : Kind) (commas : Bool) (h : Hi
 
 -- ---- byte strings
 
+pub both-true : (a b : Bool) → (a && b) ≡ true → (a ≡ true) × (b ≡ true)
+both-true true true e = (refl, refl)
+both-true true false e = absurd (let z : _≡_ {A = ℕ} 0 1 = cc in omega arith)
+both-true false b e = absurd (let z : _≡_ {A = ℕ} 0 1 = cc in omega arith)
+
+-- two rows, by their words
+module _ (a b c d w x : ℕ) (ew : w ≡ a) (ex : x ≡ b) where
+  pub alike-first : (y z : ℕ) → w ≡ x → y ≡ c → z ≡ d → eqb y z ≡ (eqb a b && eqb c d)
+  alike-first y z h ey ez = rw (eq-eqb a b (sym ew ∙ h ∙ ex)) (ap₂ eqb ey ez)
+
+  pub alike-not : (w ≡ x → ⊥) → false ≡ (eqb a b && eqb c d)
+  alike-not h = rw (ne-eqb a b (λ g. h (ew ∙ g ∙ sym ex)))
+
 module _ (book rows : List ℕ) where
+  -- what an element shows goes by its index and its variant alone
+  shown-alike : (row other : ℕ) → wordOf rows row 1 ≡ wordOf rows other 1 → wordOf rows row 2 ≡ wordOf rows other 2 → shownBy book rows row kind.Format ≡ shownBy book rows other kind.Format
+  unfolding shownBy isItem
+  shown-alike row other e f = ap₂ (λ (i v : ℕ). chosen false (interned book i) v) e f
+
+  pub alike-none : (row other : ℕ) (b : Bool) → b ≡ (eqb (wordOf rows row 1) (wordOf rows other 1) && eqb (wordOf rows row 2) (wordOf rows other 2)) → b ≡ true
+      → same (shownBy book rows other kind.Format) (bytes "{=u8}") ≡ false → false ≡ same (shownBy book rows row kind.Format) (bytes "{=u8}")
+  alike-none row other b e t h =
+      let k = both-true _ _ (sym e ∙ t) in
+      sym (ap (λ (x : Bytes). same x (bytes "{=u8}")) (shown-alike row other (eqb-true _ _ (k .0)) (eqb-true _ _ (k .1))) ∙ h)
+
   pub some-none : (n e : ℕ) → n ≡ 0 → someByte book rows n e ≡ false
   unfolding someByte
   some-none n e h = rw h

@@ -27,7 +27,7 @@ use Rattle.text.specs.declared.walk.Class.the-variants as class
 use Rattle.text.specs.declared.judging.Judged.{Judged}
 use Rattle.text.specs.declared.judging.Sides.{Sides}
 use Rattle.text.proofs.Joins.{some-some, un-join, un-some, un-none, join-join, parts}
-use Rattle.text.proofs.Cases.{byte-3, byte-is, byte-only, bytes-more}
+use Rattle.text.proofs.Cases.{both-true, byte-3, byte-is, byte-only, bytes-more}
 
 -- ---- sorts
 
@@ -80,11 +80,6 @@ pub packed : (j : Judged) (a b c d : ℕ) → a ≡ bitOf (j .other) 1 → b ≡
 packed j a b c d ea eb ec ed = rw (ea, eb, ec, ed) (bits-of (j .other) (j .quoted) (j .debugged) (j .blank))
 
 -- ---- one text more
-
-both-true : (a b : Bool) → (a && b) ≡ true → (a ≡ true) × (b ≡ true)
-both-true true true e = (refl, refl)
-both-true true false e = absurd (let z : _≡_ {A = ℕ} 0 1 = cc in omega arith)
-both-true false b e = absurd (let z : _≡_ {A = ℕ} 0 1 = cc in omega arith)
 
 with-told : (j m : Judged) (k : Class) (own : Hint) (s : Sort) → told (withMark j m k own) s ≡ (told j s || told m (sortIn k own s))
 with-told j m k own sort.Other = refl

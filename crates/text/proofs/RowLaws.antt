@@ -36,7 +36,7 @@ use Rattle.text.specs.declared.judging.Sides.{Sides}
 use Rattle.text.proofs.Joins.{un-before, un-join, un-some}
 use Rattle.text.proofs.LeafLaws.{leaf-judged, leaf-empty}
 use Rattle.text.proofs.Later.{later-is, text-past, text-leaf, text-format, text-list, text-sequence}
-use Rattle.text.proofs.Cases.{between-nothing, each-more}
+use Rattle.text.proofs.Cases.{between-nothing, each-more, both-true}
 use Rattle.text.proofs.Walks.{next-in}
 use Rattle.text.proofs.PlaceLaws.{shownSide, shown-side, side-apart, side-item, side-same}
 
@@ -274,11 +274,6 @@ module _ (book message rows : List ℕ) where
       by sort.Quoted true b c ea eb ec g = no g
       by sort.Debugged true b c ea eb ec g = no g
 
-  and-true : (a b : Bool) → (a && b) ≡ true → (a ≡ true) × (b ≡ true)
-  and-true true true e = (refl, refl)
-  and-true true false e = absurd (let z : _≡_ {A = ℕ} 0 1 = cc in omega arith)
-  and-true false b e = absurd (let z : _≡_ {A = ℕ} 0 1 = cc in omega arith)
-
   past-fine : (row : ℕ) (seen : Kind) (own parent : Hint) → countOf rows ≤ row → unprintable (textOf book message rows row seen own parent) ≡ false
   past-fine row seen own parent h = un-some [] (text-past book message rows row seen own parent h)
 
@@ -287,11 +282,11 @@ module _ (book message rows : List ℕ) where
 
   pub fine-more : (row : ℕ) (s : Sides) (b p q x y : Bool) → row < countOf rows → Fine book message rows (row + 1) b → Known book message rows row s
       → x ≡ never (s .apart) → y ≡ never (s .item) → q ≡ (x && y) → p ≡ (b && q) → Fine book message rows row p
-  fine-more row s b p q x y l w k ex ey eq ep = record { is = λ e i seen own parent h. go (and-true b q (sym ep ∙ e)) i seen own parent h (ℕ-discrete i row) }
+  fine-more row s b p q x y l w k ex ey eq ep = record { is = λ e i seen own parent h. go (both-true b q (sym ep ∙ e)) i seen own parent h (ℕ-discrete i row) }
     where
       one : (q ≡ true) → (c : Bool) → never (side s c) ≡ true
-      one e true = sym ey ∙ and-true x y (sym eq ∙ e) .1
-      one e false = sym ex ∙ and-true x y (sym eq ∙ e) .0
+      one e true = sym ey ∙ both-true x y (sym eq ∙ e) .1
+      one e false = sym ex ∙ both-true x y (sym eq ∙ e) .0
 
       go : (b ≡ true) × (q ≡ true) → (i : ℕ) (seen : Kind) (own parent : Hint) → row ≤ i → Dec (i ≡ row) → unprintable (textOf book message rows i seen own parent) ≡ false
       go e i seen own parent h (yes g) =

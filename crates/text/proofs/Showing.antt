@@ -22,10 +22,7 @@ use Rattle.book.specs.declared.Found.the-variants as found
 use Rattle.book.specs.declared.Clock.{Clock}
 use Rattle.book.specs.declared.Clock.the-variants as time
 use Rattle.book.proofs.Texts.{stored}
-use Rattle.values.specs.Values.{little, countAt}
-use Rattle.values.specs.declared.Count.{Count}
-use Rattle.values.specs.declared.Count.the-variants as count
-use Rattle.values.proofs.Answers.{count-is}
+use Rattle.values.specs.Values.{little}
 use Rattle.format.specs.declared.hints.Hint.the-variants as hint
 use Rattle.text.specs.Text.{formatOf, laterOf, entryOf, stampOf, askedOf}
 use Rattle.text.specs.declared.Which.{Which}
@@ -105,14 +102,6 @@ shows-as {old = old} {new = new} {r = r} e w = subst (λ (x : Text). Shows x old
 
 -- ---- what is asked for
 
-index-is : (message : Bytes) (i next : ℕ) → countAt message 0 2 ≡ count.Is i next → little message 0 2 ≡ i
-unfolding countAt
-index-is message i next = by (leb 2 (length message))
-  where
-    by : (b : Bool) → elim b [ true ↦ count.Is (little message 0 2) 2 | false ↦ count.Short ] ≡ count.Is i next → little message 0 2 ≡ i
-    by true e = cc
-    by false e = absurd (let z : _≡_ {A = ℕ} 0 1 = cc in omega arith)
-
 module _ (book message rows : List ℕ) where
   stored-part : (start size : ℕ) → textAt book start size ≡ take (start + size - start) (drop start book)
   stored-part start size = let n : start + size - start ≡ size = omega arith in rw n (stored book start size)
@@ -137,14 +126,9 @@ module _ (book message rows : List ℕ) where
     pub stamp-none : f ≡ time.No → r ≡ outcome.Refused refusal.Noprint → new ≡ zeros (length old) → Shows (stampOf book message rows (clock book)) old new r
     stamp-none g a z = shows-none _ old (ap (stampOf book message rows) (sym e ∙ g)) a z
 
-  pub message-asked : {old new : Bytes} {r : Outcome} (w : Which) (stamp i next : ℕ) (x : Count) → w ≡ which.Message → x ≡ countAt message 0 2 → x ≡ count.Is i next
-      → Shows (entryOf book message rows stamp (find book i)) old new r → Shows (askedOf w book message rows stamp) old new r
-  message-asked w stamp i next x ew ex ei s =
-      shows-as (ap (λ (y : Which). askedOf y book message rows stamp) ew ∙ ap (λ (y : ℕ). entryOf book message rows stamp (find book y)) (index-is message i next (sym ex ∙ ei))) s
+  pub message-asked : {old new : Bytes} {r : Outcome} (w : Which) (stamp : ℕ) → w ≡ which.Message → Shows (entryOf book message rows stamp (find book (little message 0 2))) old new r
+      → Shows (askedOf w book message rows stamp) old new r
+  message-asked w stamp ew s = shows-as (ap (λ (y : Which). askedOf y book message rows stamp) ew) s
 
   pub stamp-asked : {old new : Bytes} {r : Outcome} (w : Which) (stamp : ℕ) → w ≡ which.Timestamp → Shows (stampOf book message rows (clock book)) old new r → Shows (askedOf w book message rows stamp) old new r
   stamp-asked w stamp ew s = shows-as (ap (λ (y : Which). askedOf y book message rows stamp) ew) s
-
--- a message of two bytes has an index
-pub index-there : {X : Type 0} (message : Bytes) (x : Count) → 2 ≤ length message → x ≡ countAt message 0 2 → x ≡ count.Short → X
-index-there message x h e g = absurd (let z = sym (count-is message 0 2 (le-leb 2 (length message) h) (little message 0 2) refl) in let y : count.Is (little message 0 2) 2 ≡ count.Short = sym z ∙ sym e ∙ g in let k : _≡_ {A = ℕ} 0 1 = cc in omega arith)

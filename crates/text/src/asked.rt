@@ -8,12 +8,13 @@ use answer::Refusal;
 use book::Clock;
 use book::Found;
 use format::Hint;
-use values::Count;
+use rows::WIDTH;
 ghost use mathlib.Core.Path.{_≡_};
-ghost use Prim.Native.Nat.{_≤_};
+ghost use Prim.Native.Nat.{_*_, _≤_};
 ghost use lib.ListN.{length};
 ghost use Rattle.answer.specs.declared.Verdict.the-variants.{Ok};
 ghost use Rattle.book.specs.Book.{checked, find, clock};
+ghost use Rattle.values.specs.Values.{little};
 ghost use Rattle.format.specs.declared.hints.Hint.the-variants as hint;
 ghost use Rattle.text.specs.Prints.{unprintable};
 ghost use Rattle.text.specs.Walk.{countOf};
@@ -72,14 +73,14 @@ fn show_message(
     rows: &[u64],
     marks: &[u8],
     fine: bool,
-    index: u64,
+    top: Found,
     stamp: usize,
     out: &mut [u8],
 ) -> Outcome
-    requires { ⌜ Ready (now book) (now message) (now rows) (now marks) 0 × Fine (now book) (now message) (now rows) 0 fine × (stamp ≤ countOf (now rows)) ⌝ }
-    ensures { λ r. ⌜ Shows (entryOf (now (book .entry)) (now (message .entry)) (now (rows .entry)) stamp (find (now (book .entry)) index)) (now (out .entry)) (now (out .exit)) r ⌝ }
+    requires { ⌜ Ready (now book) (now message) (now rows) (now marks) 0 × Fine (now book) (now message) (now rows) 0 fine × (stamp ≤ countOf (now rows)) × (top ≡ find (now book) (little (now message) 0 2)) ⌝ }
+    ensures { λ r. ⌜ Shows (entryOf (now (book .entry)) (now (message .entry)) (now (rows .entry)) stamp (find (now (book .entry)) (little (now (message .entry)) 0 2))) (now (out .entry)) (now (out .exit)) r ⌝ }
 {
-    match book::find(book, index as usize) {
+    match top {
         Found::At(start, size, _) => show(
             book,
             message,
@@ -121,27 +122,77 @@ fn show_stamp(
     }
 }
 
-// Inner: the text asked for, by a checked book, of a message that has an index and at most 1,024 rows.
+// The text asked for, with two marks lent for each row.
+fn asked_in(
+    book: &[u8],
+    message: &[u8],
+    which: Which,
+    rows: &[u64],
+    top: Found,
+    stamp: usize,
+    marks: &mut [u8],
+    out: &mut [u8],
+) -> Outcome
+    requires { ⌜ (checked (now book) ≡ Ok) × (countOf (now rows) * 2 ≤ length (now marks)) × (stamp ≤ countOf (now rows)) × (top ≡ find (now book) (little (now message) 0 2)) ⌝ }
+    ensures { λ r. ⌜ Shows (askedOf which (now (book .entry)) (now (message .entry)) (now (rows .entry)) stamp) (now (out .entry)) (now (out .exit)) r ⌝ }
+{
+    let fine = mark(book, message, rows, marks);
+    match which {
+        Which::Message => show_message(book, message, rows, marks, fine, top, stamp, out),
+        Which::Timestamp => show_stamp(book, message, rows, marks, fine, out),
+    }
+}
+
+// The same for at most 32 rows, and few messages have more: fewer marks are zeroed.
+fn asked_few(
+    book: &[u8],
+    message: &[u8],
+    which: Which,
+    rows: &[u64],
+    top: Found,
+    stamp: usize,
+    out: &mut [u8],
+) -> Outcome
+    requires { ⌜ (checked (now book) ≡ Ok) × (countOf (now rows) ≤ 32) × (stamp ≤ countOf (now rows)) × (top ≡ find (now book) (little (now message) 0 2)) ⌝ }
+    ensures { λ r. ⌜ Shows (askedOf which (now (book .entry)) (now (message .entry)) (now (rows .entry)) stamp) (now (out .entry)) (now (out .exit)) r ⌝ }
+{
+    let mut marks = [0u8; 64];
+    asked_in(book, message, which, rows, top, stamp, &mut marks, out)
+}
+
+// The same for any message.
+fn asked_many(
+    book: &[u8],
+    message: &[u8],
+    which: Which,
+    rows: &[u64],
+    top: Found,
+    stamp: usize,
+    out: &mut [u8],
+) -> Outcome
+    requires { ⌜ (checked (now book) ≡ Ok) × (countOf (now rows) ≤ 1024) × (stamp ≤ countOf (now rows)) × (top ≡ find (now book) (little (now message) 0 2)) ⌝ }
+    ensures { λ r. ⌜ Shows (askedOf which (now (book .entry)) (now (message .entry)) (now (rows .entry)) stamp) (now (out .entry)) (now (out .exit)) r ⌝ }
+{
+    let mut marks = [0u8; 2048];
+    asked_in(book, message, which, rows, top, stamp, &mut marks, out)
+}
+
+// Inner: the text asked for, by a checked book, of a message that has an index, with the entry found for it, and at most 1,024 rows.
 pub fn asked(
     book: &[u8],
     message: &[u8],
     which: Which,
     rows: &[u64],
+    top: Found,
     stamp: usize,
     out: &mut [u8],
 ) -> Outcome
-    requires { ⌜ (checked (now book) ≡ Ok) × (countOf (now rows) ≤ 1024) × (stamp ≤ countOf (now rows)) × (2 ≤ length (now message)) ⌝ }
+    requires { ⌜ (checked (now book) ≡ Ok) × (countOf (now rows) ≤ 1024) × (stamp ≤ countOf (now rows)) × (top ≡ find (now book) (little (now message) 0 2)) ⌝ }
     ensures { λ r. ⌜ Shows (askedOf which (now (book .entry)) (now (message .entry)) (now (rows .entry)) stamp) (now (out .entry)) (now (out .exit)) r ⌝ }
 {
-    let mut marks = [0u8; 2048];
-    let fine = mark(book, message, rows, &mut marks);
-    match which {
-        Which::Message => {
-            let Count::Is(index, _) = values::count_at(message, 0, 2) else {
-                return Outcome::Done(0);
-            };
-            show_message(book, message, rows, &marks, fine, index, stamp, out)
-        }
-        Which::Timestamp => show_stamp(book, message, rows, &marks, fine, out),
+    if rows.len() / WIDTH <= 32 {
+        asked_few(book, message, which, rows, top, stamp, out)
+    } else {
+        asked_many(book, message, which, rows, top, stamp, out)
     }
 }

@@ -68,11 +68,12 @@ pub fn text_checked(
     requires { ⌜ checked (now book) ≡ Ok ⌝ }
     ensures { λ r. ⌜ Texts which (now (book .entry)) (now (message .entry)) (frameOf (given (now (book .entry)) (now (message .entry)) (length (now (rows .entry))))) (now (rows .entry)) (now (rows .exit)) (now (out .entry)) (now (out .exit)) r ⌝ }
 {
-    match rows::decode_checked(book, message, rows) {
+    let top = rows::top(book, message);
+    match rows::decode_found(book, message, rows, top) {
         Decoded::Refused(r) => answer::refuse(out, r),
         Decoded::Done(stamp, all, _) => {
             let end = all * rows::WIDTH;
-            let r = asked(book, message, which, &rows[..end], stamp, out);
+            let r = asked(book, message, which, &rows[..end], top, stamp, out);
             settle(rows, r)
         }
     }

@@ -18,6 +18,7 @@ ghost use Rattle.parts.specs.Parts.{bytes, same};
 ghost use Rattle.format.specs.declared.types.Kind.the-variants as kind;
 ghost use Rattle.text.specs.Hints.{sortOf};
 ghost use Rattle.text.specs.Leaves.{interned};
+ghost use Rattle.text.specs.Walk.{wordOf};
 ghost use Rattle.text.specs.Text.{isItem, chosen, shownBy, someByte, isQuoted};
 ghost use Rattle.text.specs.Marks.{Stands, Holds};
 
@@ -126,18 +127,47 @@ fn is_byte(book: &[u8], rows: &[u64], row: usize) -> bool
     parts::same(&book[start..stop], b"{=u8}")
 }
 
-// Inner: has one of n elements the text of a byte?
+// Have two rows the same index and the same variant?
+fn is_alike(rows: &[u64], row: usize, other: usize) -> bool
+    ensures { λ r. ⌜ r ≡ (eqb (wordOf (now (rows .entry)) row 1) (wordOf (now (rows .entry)) other 1) && eqb (wordOf (now (rows .entry)) row 2) (wordOf (now (rows .entry)) other 2)) ⌝ }
+{
+    if word(rows, row, 1) == word(rows, other, 1) {
+        word(rows, row, 2) == word(rows, other, 2)
+    } else {
+        false
+    }
+}
+
+// Is the text of an element that of a byte, where that of another is not? An element that is like the other is not looked up.
+fn is_byte_too(book: &[u8], rows: &[u64], row: usize, other: usize) -> bool
+    requires { ⌜ (checked (now book) ≡ Ok) × (same (shownBy (now book) (now rows) other kind.Format) (bytes "{=u8}") ≡ false) ⌝ }
+    ensures { λ r. ⌜ r ≡ same (shownBy (now (book .entry)) (now (rows .entry)) row kind.Format) (bytes "{=u8}") ⌝ }
+{
+    if is_alike(rows, row, other) {
+        return false;
+    }
+    is_byte(book, rows, row)
+}
+
+// Inner: has one of n elements the text of a byte? Nearly always all have the same text, which is then looked up once.
 pub fn some_byte(book: &[u8], rows: &[u64], n: u64, first: usize) -> bool
     requires { ⌜ checked (now book) ≡ Ok ⌝ }
     ensures { λ r. ⌜ r ≡ someByte (now (book .entry)) (now (rows .entry)) n first ⌝ }
 {
+    if n == 0 {
+        return false;
+    }
+    if is_byte(book, rows, first) {
+        return true;
+    }
     let mut row = first;
-    let mut left = n;
+    let mut left = n - 1;
     while 0 < left {
-        if is_byte(book, rows, row) {
+        let before = row;
+        row = next(rows, before);
+        if is_byte_too(book, rows, row, before) {
             return true;
         }
-        row = next(rows, row);
         left -= 1;
     }
     false

@@ -11,14 +11,13 @@ pub show-message-spec : {M : Type 1} → statement M
 show-message-spec =
     tie.close
     (tie.spec
-    (λ c κs. (c .before .before .before .before .before .pre .0 .checks))
     (λ c. search needs)
-    (λ c. let w = found-inside _ _ (c .before .before .before .before .before .before .before .before .before .pre .0 .checks) (sym (c .before .before .before .find .ensures) ∙ (c .before .start .given .1)) .within in omega arith)
-    (λ c. search needs)
-    (λ c. search needs)
-    (λ c. let w = found-inside _ _ (c .before .before .before .before .before .before .before .before .before .pre .0 .checks) (sym (c .before .before .before .find .ensures) ∙ (c .before .start .given .1)) .within in omega arith)
-    (λ c κs. ((c .before .before .before .before .before .before .before .before .before .before .before .pre .0), (c .before .before .before .before .before .before .before .before .before .before .before .pre .1), (c .before .before .before .before .before .before .before .before .before .before .before .pre .2), found-small _ _ _ _ _ _ (c .before .before .before .before .before .before .before .before .before .before .before .pre .0 .checks) (c .before .before .before .before .before .find .ensures) (c .before .before .before .start .given .1)))
+    (λ c. let w = found-inside _ _ (c .before .before .before .before .before .before .before .before .pre .0 .checks) (sym (c .before .before .before .before .before .before .before .before .pre .3) ∙ (c .before .top .given .1)) .within in omega arith)
     (λ c. search needs)
     (λ c. search needs)
-    (λ c. entry-shows _ _ _ _ _ _ (c .before .before .before .before .before .before .before .before .find .ensures) _ _ _ (c .before .before .before .before .before .before .start .given .1) (c .before .before .show .ensures))
-    (λ c. entry-absent _ _ _ _ _ _ _ (c .before .before .find .ensures) (c .enum-told .given .1)))
+    (λ c. let w = found-inside _ _ (c .before .before .before .before .before .before .before .before .pre .0 .checks) (sym (c .before .before .before .before .before .before .before .before .pre .3) ∙ (c .before .top .given .1)) .within in omega arith)
+    (λ c κs. ((c .before .before .before .before .before .before .before .before .before .before .pre .0), (c .before .before .before .before .before .before .before .before .before .before .pre .1), (c .before .before .before .before .before .before .before .before .before .before .pre .2), found-small _ _ _ _ _ _ (c .before .before .before .before .before .before .before .before .before .before .pre .0 .checks) (c .before .before .before .before .before .before .before .before .before .before .pre .3) (c .before .before .before .top .given .1)))
+    (λ c. search needs)
+    (λ c. search needs)
+    (λ c. entry-shows _ _ _ _ _ _ (c .before .before .before .before .before .before .before .before .before .before .before .before .before .pre .3) _ _ _ (c .before .before .before .before .before .before .top .given .1) (c .before .before .show .ensures))
+    (λ c. entry-absent _ _ _ _ _ _ _ (c .before .before .before .before .before .before .before .pre .3) (c .enum-told .given .1)))

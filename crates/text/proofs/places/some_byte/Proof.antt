@@ -1,13 +1,18 @@
-use Rattle.text.proofs.Cases.{some-none, some-here, some-later}
-use mathlib.Core.Path.{_≡_, refl, sym, ap, _∙_}
+use mathlib.Core.Path.{_≡_, sym, ap, _∙_}
+use mathlib.Core.Bool.{false}
 use native.Mathlib.Omega.{arith}
-use Rattle.text.specs.Text.{someByte}
+use Rattle.parts.specs.Parts.{bytes, same}
+use Rattle.format.specs.declared.types.Kind.the-variants as kind
+use Rattle.text.specs.Walk.{nextOf}
+use Rattle.text.specs.Text.{shownBy, someByte}
+use Rattle.text.proofs.Cases.{some-none, some-here, some-later}
 use borrow.Author.Needs.{needs}
 use Rattle.text.proofs.places.some_byte.Statement.{statement}
 use Rattle.text.proofs.places.some_byte.Tie as tie
 
 abbrev Inv-loop : tie.InvT-loop
-Inv-loop book rows n first row₀ left₀ row left = someByte book rows left row ≡ someByte book rows n first
+Inv-loop book rows n first row₀ left₀ row left =
+    (same (shownBy book rows row kind.Format) (bytes "{=u8}") ≡ false) × (someByte book rows left (nextOf rows row) ≡ someByte book rows n first)
 
 abbrev μ-loop : tie.MeasureT-loop
 μ-loop book rows n first row₀ left₀ row left = left
@@ -18,11 +23,15 @@ some-byte-spec =
     (tie.spec
     Inv-loop
     μ-loop
-    (λ c. refl)
+    (λ c. sym (some-none _ _ _ _ (c .if1 .taken)))
     (λ c κs. search needs)
-    (λ c. sym (some-here _ _ _ _ (c .before .before .loop-test .taken) (sym (c .before .is-byte .ensures) ∙ (c .if1 .taken))) ∙ (c .before .before .before .loop .inv))
+    (λ c. sym (some-here _ _ _ _ (omega (arith, (c .before .before .if1 .left))) (sym (c .before .is-byte .ensures) ∙ (c .if2 .taken))))
+    (λ c. omega (arith, (c .before .before .if1 .left)))
+    (λ c. (sym (c .before .is-byte .ensures) ∙ (c .if2 .left), sym (some-later _ _ _ _ (omega (arith, (c .before .before .if1 .left))) (sym (c .before .is-byte .ensures) ∙ (c .if2 .left)))))
     (λ c κs. search needs)
+    (λ c κs. ((c .before .before .before .before .before .before .before .before .pre), (c .before .before .loop .inv .0)))
+    (λ c. sym (some-here _ _ _ _ (c .before .before .before .loop-test .taken) (sym (c .before .is-byte-too .ensures) ∙ (c .if3 .taken))) ∙ ap (someByte _ _ _) (c .before .before .next .ensures) ∙ (c .before .before .before .before .loop .inv .1))
     (λ c. search needs)
     (λ c. omega arith)
-    (λ c. ap (someByte _ _ _) (c .next .ensures) ∙ sym (some-later _ _ _ _ (c .before .before .before .loop-test .taken) (sym (c .before .before .is-byte .ensures) ∙ (c .before .if1 .left))) ∙ (c .before .before .before .before .loop .inv))
-    (λ c. sym (some-none _ _ _ _ (omega arith)) ∙ (c .before .loop .inv)))
+    (λ c. (sym (c .before .is-byte-too .ensures) ∙ (c .if3 .left), sym (some-later _ _ _ _ (c .before .before .before .loop-test .taken) (sym (c .before .is-byte-too .ensures) ∙ (c .if3 .left))) ∙ ap (someByte _ _ _) (c .before .before .next .ensures) ∙ (c .before .before .before .before .loop .inv .1)))
+    (λ c. sym (some-none _ _ _ _ (omega arith)) ∙ (c .before .loop .inv .1)))

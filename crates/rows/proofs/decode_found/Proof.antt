@@ -1,10 +1,10 @@
 use Rattle.rows.proofs.Framing.{checked-done, checked-refused}
 use borrow.Author.Needs.{needs}
-use Rattle.rows.proofs.decode_checked.Statement.{statement}
-use Rattle.rows.proofs.decode_checked.Tie as tie
+use Rattle.rows.proofs.decode_found.Statement.{statement}
+use Rattle.rows.proofs.decode_found.Tie as tie
 
-pub decode-checked-spec : {M : Type 1} → statement M
-decode-checked-spec =
+pub decode-found-spec : {M : Type 1} → statement M
+decode-found-spec =
     tie.close
     (tie.spec
     (λ c κs. search needs)
