@@ -1,6 +1,6 @@
 -- Where the first lines of a checked book end, and its clock. Assumes nothing.
 use Prim.Native.Nat.{ℕ, _+_, _-_}
-use mathlib.Core.Path.{_≡_, sym, ap, ap₂, _∙_}
+use mathlib.Core.Path.{_≡_, refl, sym, ap, ap₂, _∙_}
 use mathlib.Core.Bool.{Bool, true, false}
 use native.Mathlib.Omega.{arith}
 use lib.ListN.{length}
@@ -10,6 +10,7 @@ use Rattle.parts.proofs.Places.{part-length}
 use Rattle.book.specs.Book.{checked, timed, timedIn, clock}
 use Rattle.book.specs.Steps.{lineEnd}
 use Rattle.book.specs.declared.Clock.the-variants as time
+use Rattle.book.proofs.Ends.{end-on}
 use Rattle.book.proofs.Tops.{Topped, ticking}
 use Rattle.book.proofs.Verdicts.{is-checked}
 
@@ -30,6 +31,10 @@ module _ (s : Bytes) (c : checked s ≡ Ok) where
 
   pub last-end : {a b d : ℕ} → a ≡ lineEnd s 0 + 1 → b ≡ lineEnd s a + 1 → d ≡ lineEnd s b → d ≡ is-checked s c .stop
   last-end p q r = r ∙ ap (lineEnd s) (third-line p q) ∙ sym (top .ends .2)
+
+  -- the same, looked for from behind its key
+  pub text-end : {a b d : ℕ} → a ≡ lineEnd s 0 + 1 → b ≡ lineEnd s a + 1 → d ≡ lineEnd s (b + 10) → d ≡ lineEnd s b
+  text-end {a} {b} p q r = r ∙ end-on s b 10 (let o = top .order .2 in let z : lineEnd s b ≡ is-checked s c .stop = last-end p q refl in omega (arith, third-line p q))
 
   module _ (b : Bool) (f : b ≡ same (part s (top .one + 1 + 6) (top .two)) (bytes "yes")) where
     ticks : clock s ≡ timed (ticking b (record { start = top .two + 1 + 10; text = part s (top .two + 1 + 10) (is-checked s c .stop) }))

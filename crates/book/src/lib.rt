@@ -71,14 +71,14 @@ pub fn clock_of(book: &[u8]) -> Clock
     let third = next_line(book, second);
     if parts::same(&book[second + 6..third - 1], b"yes") {
         let start = third + 10;
-        return Clock::At(start, parts::next_byte(book, third, 10) - start);
+        return Clock::At(start, line_end(book, start) - start);
     }
     Clock::No
 }
 
 // Inner: the entry with an index, in a checked book. If it is there, it follows a line's end from `from` on and before `bound`; indexes
 // rise, so the entry that follows a place between tells which side is left. The place is guessed from what the last turn saw: so many
-// `bytes` took so many `steps` of indexes, and those left begin at `least`. At first an index is taken to have 40 bytes.
+// `bytes` took so many `steps` of indexes, and those left begin at `least`. At first an index is taken to have 48 bytes.
 pub fn find(book: &[u8], index: usize) -> Found
     requires { ⌜ checked (now book) ≡ Ok ⌝ }
     ensures { λ r. ⌜ r ≡ find (now (book .entry)) index ⌝ }
@@ -86,7 +86,7 @@ pub fn find(book: &[u8], index: usize) -> Found
     let mut from = 0;
     let mut bound = book.len();
     let mut least = 0;
-    let mut bytes = 40;
+    let mut bytes = 48;
     let mut steps = 1;
     let mut turn = 0;
     while from < bound {

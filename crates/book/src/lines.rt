@@ -16,13 +16,13 @@ pub enum Trio {
     At(usize, usize, usize, usize, usize, usize),
 }
 
-// Inner: where the line at a place ends. Four bytes at a time: a lookup spends its time here.
+// Inner: where the line at a place ends. Eight bytes at a time: a lookup spends its time here.
 pub fn line_end(book: &[u8], at: usize) -> usize
     requires { ⌜ at ≤ length (now book) ⌝ }
     ensures { λ r. ⌜ r ≡ lineEnd (now (book .entry)) at ⌝ }
 {
     let mut i = at;
-    while 3 < book.len() - i {
+    while 7 < book.len() - i {
         if book[i] == 10 {
             return i;
         }
@@ -35,7 +35,19 @@ pub fn line_end(book: &[u8], at: usize) -> usize
         if book[i + 3] == 10 {
             return i + 3;
         }
-        i += 4;
+        if book[i + 4] == 10 {
+            return i + 4;
+        }
+        if book[i + 5] == 10 {
+            return i + 5;
+        }
+        if book[i + 6] == 10 {
+            return i + 6;
+        }
+        if book[i + 7] == 10 {
+            return i + 7;
+        }
+        i += 8;
     }
     parts::next_byte(book, i, 10)
 }

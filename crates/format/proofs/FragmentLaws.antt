@@ -1,15 +1,17 @@
 -- Parameters and fragments: one law for each return of src/fragments.rt and of `next`. Assumes nothing.
 use Prim.Native.Nat.{ℕ, _+_, _<_, _≤_}
 use Prim.Native.Char.{code}
-use mathlib.Core.Path.{_≡_, ap, _∙_}
-use mathlib.Core.Bool.{true, false}
+use mathlib.Core.Path.{_≡_, sym, ap, _∙_}
+use mathlib.Core.Bool.{Bool, true, false}
 use native.Mathlib.Omega.{arith}
 use lib.ListN.{length, getD, drop-of-length-le}
-use borrow.Author.Tests.{lt-ltb, le-ltb, eq-eqb, ne-eqb}
+use lib.Dec.{eqb}
+use borrow.Author.Tests.{lt-ltb, le-ltb, eq-eqb, ne-eqb, eqb-true, eqb-false}
 use Rattle.parts.specs.Parts.{Bytes, numberAt}
 use Rattle.parts.specs.declared.Number.the-variants.{Num, NoNum}
-use Rattle.parts.proofs.Places.{at-drop}
+use Rattle.parts.proofs.Places.{by-test, never, at-drop}
 use Rattle.format.specs.Grammar.{is, typedAt, hintedAt, positionAt, closedBy, paramAt, plain, runEnd, nextAt}
+use Rattle.format.specs.Steps.{isBrace}
 use Rattle.format.specs.declared.types.Kind.{Kind}
 use Rattle.format.specs.declared.types.Typed.the-variants.{OfType, NoType}
 use Rattle.format.specs.declared.hints.Hint.{Hint}
@@ -57,18 +59,43 @@ module _ (s : Bytes) (at : ℕ) where
   run-past h = rw (drop-of-length-le s h) (omega arith)
 
   module _ (l : at < length s) where
-    pub run-opens : getD s at 0 ≡ code "{" → runEnd s at ≡ at
+    run-opens : getD s at 0 ≡ code "{" → runEnd s at ≡ at
     unfolding runEnd plain
     run-opens e = rw (at-drop s at l, eq-eqb (getD s at 0) (code "{") e, plain) (omega arith)
 
     module _ (o : getD s at 0 ≡ code "{" → ⊥) where
-      pub run-closes : getD s at 0 ≡ code "}" → runEnd s at ≡ at
+      run-closes : getD s at 0 ≡ code "}" → runEnd s at ≡ at
       unfolding runEnd plain
       run-closes e = rw (at-drop s at l, ne-eqb (getD s at 0) (code "{") o, eq-eqb (getD s at 0) (code "}") e, plain) (omega arith)
 
       pub run-goes-on : (getD s at 0 ≡ code "}" → ⊥) → runEnd s at ≡ runEnd s (at + 1)
       unfolding runEnd plain
       run-goes-on e = rw (at-drop s at l, ne-eqb (getD s at 0) (code "{") o, ne-eqb (getD s at 0) (code "}") e, plain) (omega arith)
+
+module _ (b : ℕ) where
+  pub brace-opens : b ≡ code "{" → isBrace b ≡ true
+  unfolding isBrace
+  brace-opens e = rw (eq-eqb b (code "{") e, isBrace)
+
+  pub brace-closes : (b ≡ code "{" → ⊥) → isBrace b ≡ eqb b (code "}")
+  unfolding isBrace
+  brace-closes n = rw (ne-eqb b (code "{") n, isBrace)
+
+  pub brace-low : b < code "{" → isBrace b ≡ false
+  brace-low l = brace-closes (λ e. omega (arith, e)) ∙ ne-eqb b (code "}") (λ e. omega (arith, e))
+
+module _ (s : Bytes) (at : ℕ) (l : at < length s) (r : Bool) (f : r ≡ isBrace (getD s at 0)) where
+  pub run-stops : r ≡ true → runEnd s at ≡ at
+  run-stops e =
+      by-test (eqb (getD s at 0) (code "{"))
+      (λ t. run-opens s at l (eqb-true _ _ t))
+      (λ t. run-closes s at l (eqb-false _ _ t) (eqb-true _ _ (sym (brace-closes _ (eqb-false _ _ t)) ∙ sym f ∙ e)))
+
+  pub run-passes : r ≡ false → runEnd s at ≡ runEnd s (at + 1)
+  run-passes e =
+      by-test (eqb (getD s at 0) (code "{"))
+      (λ t. never _ (f ∙ brace-opens _ (eqb-true _ _ t)) e)
+      (λ t. run-goes-on s at l (eqb-false _ _ t) (eqb-false _ _ (sym (brace-closes _ (eqb-false _ _ t)) ∙ sym f ∙ e)))
 
 -- ---- fragments
 

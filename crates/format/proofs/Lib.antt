@@ -1,4 +1,5 @@
 pub mod Tables
+pub mod NameLaws
 pub mod TypeLaws
 pub mod HintLaws
 pub mod FragmentLaws

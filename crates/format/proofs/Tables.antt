@@ -1,15 +1,10 @@
--- Tables of names: what the number of a name means, and the packed forms of the tables. Assumes nothing.
+-- Tables of names: what the number of a name means. Assumes nothing.
 use Prim.Native.Nat.{ℕ, zero, suc, _+_, _-_, _≤_}
-use mathlib.Core.Path.{_≡_, refl, sym, ap, _∙_, subst}
-use mathlib.Core.Bool.{true}
+use mathlib.Core.Path.{_≡_, refl, sym, ap, _∙_}
 use mathlib.Core.List.{List, [], _∷_, map}
 use native.Mathlib.Omega.{arith}
-use lib.ListN.{getD, take, drop}
+use lib.ListN.{getD, drop}
 use lib.Seq.{getD-drop}
-use Rattle.parts.specs.Parts.{Bytes, byte, firstName, words, allOther, Passes}
-use Rattle.parts.specs.declared.Named.{Named}
-use Rattle.parts.specs.declared.Start.{Start}
-use Rattle.parts.proofs.Tables.{search-passes}
 use Rattle.format.specs.Grammar.{meaning, types, arrays, kindNo, arrayNo, hints, bases, hintNo, baseNo}
 use Rattle.format.specs.declared.types.Kind.{Kind}
 use Rattle.format.specs.declared.types.Kind.the-variants as kind
@@ -58,21 +53,3 @@ array-first k n h = rw h
 pub array-last : (k n : ℕ) → (k ≡ 0 → ⊥) → kind.FormatArray n ≡ arrayNo k n
 unfolding arrayNo meaning arrays
 array-last k n h = ap (λ (f : ℕ → Kind). f n) (from (map (λ r. r .means) arrays) 1 k kind.FormatArray refl (omega (arith, h)))
-
--- ---- from where on a table is searched
-
-module _ (ns : List Bytes) (packed : Bytes) where
-  -- for one byte
-  pub passes-at : (place number byte : ℕ) → allOther byte (take number ns) ≡ true → words (drop place packed) ≡ drop number ns → number ≤ place → {b : ℕ} {r : Start}
-      → r ≡ record { place = place; number = number } → b ≡ byte → Passes ns packed b r
-  passes-at place number byte others rest few {b} {r} e h =
-      subst (λ (z : Start). Passes ns packed b z) (sym e) (subst (λ (x : ℕ). Passes ns packed x (record { place = place; number = number })) (sym h) (record { others = others; rest = rest; few = few }))
-
-  -- for every byte
-  pub passes-none : words packed ≡ ns → {b : ℕ} {r : Start} → r ≡ record { place = 0; number = 0 } → Passes ns packed b r
-  unfolding allOther
-  passes-none rest {b} {r} e = subst (λ (z : Start). Passes ns packed b z) (sym e) (record { others = refl; rest = rest; few = omega arith })
-
-  -- the search from there finds what the search of the whole table does
-  pub found-from : (s : Bytes) (at b : ℕ) (r : Start) → b ≡ byte s at → Passes ns packed b r → (x y : Named) → x ≡ firstName (words (drop (r .place) packed)) s at (r .number) → x ≡ y → firstName ns s at 0 ≡ y
-  found-from s at b r h p x y e f = sym (search-passes s at b (sym h) ns packed r p) ∙ sym e ∙ f

@@ -1,12 +1,12 @@
 -- What the inner steps of a scan say of each other. No rule of 01 stands here, and neither `next` nor `scan` cites it.
 use Prim.Native.Nat.{ℕ, _+_, _≤_, _<_}
+use Prim.Native.Char.{code}
 use mathlib.Core.Path.{_≡_}
 use mathlib.Core.Bool.{Bool, true, false}
 use mathlib.Core.Option.{Option, none, some}
 use mathlib.Core.List.{List, [], _∷_, _++_}
 use lib.ListN.{length, take, drop}
 use lib.Dec.{ltb, eqb}
-use Rattle.parts.specs.Parts.{Bytes, bytes}
 use Rattle.format.specs.Grammar.{counterAfter}
 use Rattle.format.specs.Pieces.{Piece}
 use Rattle.format.specs.Params.{asked, meetOf, prepared, padded}
@@ -23,14 +23,10 @@ use Rattle.format.specs.declared.sift.Sifted.{Sifted}
 use Rattle.format.specs.declared.sift.Stride.{Stride}
 use Rattle.format.specs.declared.sift.Stride.the-variants as stride
 
--- ---- tables as the code has them, a space between each two names
+-- ---- runs of literal bytes
 
-abbrev pub packedTypes : Bytes
-packedTypes =
-    bytes "bool u8 u16 u32 u64 u128 usize i8 i16 i32 i64 i128 isize f32 f64 str istr char ? [u8] [?] __internal_Debug __internal_Display __internal_FormatSequence"
-
-abbrev pub packedHints : Bytes
-packedHints = bytes "a ? us ms ts tms tus"
+unfoldable pub isBrace : ℕ → Bool
+isBrace b = elim (eqb b (code "{")) [ true ↦ true | false ↦ eqb b (code "}") ]
 
 -- ---- records, sorted and merged where they lie
 

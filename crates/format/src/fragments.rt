@@ -10,6 +10,7 @@ use parts::byte_at;
 use parts::number_at;
 ghost use mathlib.Core.Path.{_≡_};
 ghost use Rattle.format.specs.Grammar.{positionAt, closedBy, paramAt, runEnd};
+ghost use Rattle.format.specs.Steps.{isBrace};
 
 // A parameter's position and its type.
 pub struct Param {
@@ -94,16 +95,26 @@ pub fn param_at(text: &[u8], at: usize, counter: usize) -> Fragment
     }
 }
 
+// Most bytes stand below both braces: one test passes them.
+fn is_brace(b: u8) -> bool
+    ensures { λ r. ⌜ r ≡ isBrace b ⌝ }
+{
+    if b < b'{' {
+        return false;
+    }
+    if b == b'{' {
+        return true;
+    }
+    b == b'}'
+}
+
 // The place of the first brace from a place on, or the end.
 pub fn run_end(text: &[u8], at: usize) -> usize
     ensures { λ r. ⌜ r ≡ runEnd (now (text .entry)) at ⌝ }
 {
     let mut i = at;
     while i < text.len() {
-        if text[i] == b'{' {
-            return i;
-        }
-        if text[i] == b'}' {
+        if is_brace(text[i]) {
             return i;
         }
         i += 1;

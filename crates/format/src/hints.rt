@@ -1,16 +1,12 @@
 // A parameter's hint: how its value is to be shown.
+use crate::names::base_name;
+use crate::names::hint_name;
 use parts::Named;
 use parts::Number;
-use parts::Start;
-use parts::at_name;
 use parts::byte_at;
-use parts::first_name;
-use parts::first_name_from;
 use parts::number_at;
 ghost use mathlib.Core.Path.{_≡_};
-ghost use Rattle.parts.specs.Parts.{Passes};
-ghost use Rattle.format.specs.Steps.{packedHints};
-ghost use Rattle.format.specs.Grammar.{names, hints, hintNo, baseNo, padAt, shapedAt, hintAt, hintedAt};
+ghost use Rattle.format.specs.Grammar.{hintNo, baseNo, padAt, shapedAt, hintAt, hintedAt};
 
 // b, o, x and X.
 pub enum Base {
@@ -49,7 +45,7 @@ pub enum Hinted {
     NoHint(usize),
 }
 
-// The hint whose name is number k among the names of `hint_at`.
+// The hint whose name is number k among the names of hints.
 fn hint_of(k: usize) -> Hint
     ensures { λ r. ⌜ r ≡ hintNo k ⌝ }
 {
@@ -64,7 +60,7 @@ fn hint_of(k: usize) -> Hint
     }
 }
 
-// The base whose letter is number k among those of `shaped_at`.
+// The base whose letter is number k among those of bases.
 fn base_of(k: usize) -> Base
     ensures { λ r. ⌜ r ≡ baseNo k ⌝ }
 {
@@ -99,7 +95,7 @@ fn shaped_at(text: &[u8], alternate: bool, at: usize) -> Hinted
     let Number::Num(pad, next) = pad_at(text, at) else {
         return Hinted::NoHint(at);
     };
-    if let Named::Name(k, end) = first_name(text, next, b"b o x X") {
+    if let Named::Name(k, end) = base_name(text, next) {
         return Hinted::Shown(Hint::Radix(base_of(k), alternate, pad), end);
     }
     if alternate {
@@ -111,29 +107,13 @@ fn shaped_at(text: &[u8], alternate: bool, at: usize) -> Hinted
     Hinted::Shown(Hint::Padded(pad), next)
 }
 
-// From where on the table of `hint_at` is searched for a name that begins with a byte.
-fn hint_start(b: u8) -> Start
-    ensures { λ r. ⌜ Passes (names hints) packedHints b r ⌝ }
-{
-    match b {
-        b'0' => at_name(20, 7),
-        b'#' => at_name(20, 7),
-        b'x' => at_name(20, 7),
-        b'X' => at_name(20, 7),
-        b'u' => at_name(4, 2),
-        b't' => at_name(10, 4),
-        _ => at_name(0, 0),
-    }
-}
-
 fn hint_at(text: &[u8], at: usize) -> Hinted
     ensures { λ r. ⌜ r ≡ hintAt (now (text .entry)) at ⌝ }
 {
-    let b = byte_at(text, at);
-    if let Named::Name(k, end) = first_name_from(text, at, b"a ? us ms ts tms tus", hint_start(b)) {
+    if let Named::Name(k, end) = hint_name(text, at) {
         return Hinted::Shown(hint_of(k), end);
     }
-    if b == b'#' {
+    if byte_at(text, at) == b'#' {
         return shaped_at(text, true, at + 1);
     }
     shaped_at(text, false, at)

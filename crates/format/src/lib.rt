@@ -5,6 +5,7 @@
 mod codes;
 mod fragments;
 mod hints;
+mod names;
 mod params;
 mod records;
 mod sift;

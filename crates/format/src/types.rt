@@ -1,17 +1,13 @@
 // A parameter's type: its name, its N or its bits.
+use crate::names::type_name;
 use parts::Named;
 use parts::Number;
-use parts::Start;
-use parts::at_name;
 use parts::byte_at;
 use parts::digit_of;
 use parts::first_name;
-use parts::first_name_from;
 use parts::number_at;
 ghost use mathlib.Core.Path.{_≡_};
-ghost use Rattle.parts.specs.Parts.{Passes};
-ghost use Rattle.format.specs.Steps.{packedTypes};
-ghost use Rattle.format.specs.Grammar.{names, types, kindNo, arrayNo, spaced, bitsTo, bitsAt, countAt, arrayAt, typeAt, typedAt};
+ghost use Rattle.format.specs.Grammar.{kindNo, arrayNo, spaced, bitsTo, bitsAt, countAt, arrayAt, typeAt, typedAt};
 
 // How many bits an integer has; `Size` is that of usize and isize.
 pub enum Width {
@@ -56,7 +52,7 @@ pub enum Typed {
     NoType(usize),
 }
 
-// Inner: the type whose name is number k among the names of `type_at`.
+// Inner: the type whose name is number k among the names of types.
 pub fn kind_of(k: usize) -> Kind
     ensures { λ r. ⌜ r ≡ kindNo k ⌝ }
 {
@@ -157,23 +153,6 @@ fn array_at(text: &[u8], at: usize) -> Typed
     count_at(text, k, spaced(text, next))
 }
 
-// From where on the table of `type_at` is searched for a name that begins with a byte.
-fn type_start(b: u8) -> Start
-    ensures { λ r. ⌜ Passes (names types) packedTypes b r ⌝ }
-{
-    match b {
-        b'u' => at_name(5, 1),
-        b'i' => at_name(31, 7),
-        b'f' => at_name(57, 13),
-        b's' => at_name(65, 15),
-        b'c' => at_name(74, 17),
-        b'?' => at_name(79, 18),
-        b'[' => at_name(81, 19),
-        b'_' => at_name(90, 21),
-        _ => at_name(0, 0),
-    }
-}
-
 fn type_at(text: &[u8], at: usize) -> Typed
     ensures { λ r. ⌜ r ≡ typeAt (now (text .entry)) at ⌝ }
 {
@@ -181,12 +160,7 @@ fn type_at(text: &[u8], at: usize) -> Typed
     if digit_of(b) <= 9 {
         return bits_at(text, at);
     }
-    let Named::Name(k, next) = first_name_from(
-        text,
-        at,
-        b"bool u8 u16 u32 u64 u128 usize i8 i16 i32 i64 i128 isize f32 f64 str istr char ? [u8] [?] __internal_Debug __internal_Display __internal_FormatSequence",
-        type_start(b),
-    ) else {
+    let Named::Name(k, next) = type_name(text, at) else {
         return array_at(text, at);
     };
     Typed::OfType(kind_of(k), next)

@@ -102,6 +102,26 @@ module _ (s : Bytes) (limit v i : ℕ) (n : Number) (so : digits (drop i s) limi
     pub walk-turns : d ≤ 9 → v * 10 + d ≤ limit → digits (drop (i + 1) s) limit (v * 10 + d) (i + 1) ≡ n
     walk-turns h k = rw f (sym (digits-more (getD s i 0) (drop (i + 1) s) limit v i (omega arith) (omega arith)) ∙ opened)
 
+-- the walk behind a first digit that is no 0
+module _ (s : Bytes) (at limit b d : ℕ) (e : b ≡ byte s at) (f : d ≡ digitOf b) (h : d ≤ 9) (k : d ≡ 0 → ⊥) where
+  begun : digits (drop at s) limit 0 at ≡ numberAt s at limit
+  begun = first-starts s at limit b d e f h k
+
+  read : d ≡ digitOf (getD s at 0)
+  unfolding byte
+  read = f ∙ ap digitOf e
+
+  alone : 0 * 10 + d ≡ d
+  alone = omega arith
+
+  pub first-passes : limit < d → Num 0 at ≡ numberAt s at limit
+  first-passes l = walk-passes s limit 0 at _ begun d (first-inside s at limit b d e f h) read h (omega (arith, alone))
+
+  pub first-turns : d ≤ limit → digits (drop (at + 1) s) limit d (at + 1) ≡ numberAt s at limit
+  first-turns l =
+      ap (λ (v : ℕ). digits (drop (at + 1) s) limit v (at + 1)) (sym alone)
+      ∙ walk-turns s limit 0 at _ begun d (first-inside s at limit b d e f h) read h (omega (arith, alone))
+
 -- ---- what a number is
 
 -- digits end at or behind their place, within the bytes, with a value within the limit

@@ -1,18 +1,18 @@
 -- Packed tables of names. Assumes nothing.
 use Prim.Native.Nat.{ℕ, zero, suc, _+_, _-_, _<_, _≤_}
 use mathlib.Core.Path.{_≡_, refl, sym, ap, _∙_}
-use mathlib.Core.Bool.{Bool, true, false, false≢true}
+use mathlib.Core.Bool.{Bool, true, false}
 use mathlib.Core.List.{List, [], _∷_}
 use native.Mathlib.Omega.{arith}
-use lib.ListN.{length, getD, take, drop, length-drop, drop-of-length-le}
-use lib.Seq.{drop-drop, getD-drop}
+use native.Mathlib.Decide.{decLe}
+use lib.ListN.{length, take, drop, length-drop, drop-of-length-le}
+use lib.Seq.{drop-drop}
 use lib.Dec.{eqb}
-use Rattle.parts.specs.Parts.{Bytes, byte, part, span, nextByte, begins, firstName, grow, words, allOther, Passes}
+use Rattle.parts.specs.Parts.{Bytes, byte, part, span, nextByte, begins, firstName, grow, words, Has, apart, allApart}
 use Rattle.parts.specs.declared.Named.{Named}
 use Rattle.parts.specs.declared.Named.the-variants.{Name, NoName}
-use Rattle.parts.specs.declared.Start.{Start}
-use Rattle.parts.proofs.Places.{by-test, span-passed, part-length, nextByte-within}
-use Rattle.parts.proofs.Names.{begins-fits}
+use Rattle.parts.proofs.Places.{by-test, never, byte-drop, span-passed, part-length, nextByte-within}
+use Rattle.parts.proofs.Names.{begins-on, begins-off, begins-fits}
 
 -- ---- the first name
 
@@ -113,36 +113,76 @@ module _ (s names : Bytes) (at from k : ℕ) (r : Named) (so : firstName (words 
     pub found-fits : b ≡ true → (most : ℕ) → at ≤ most → length s ≤ most → at + (e - from) ≤ most
     found-fits h most p q = let z = begins-fits (part names from e) (drop at s) (there ∙ h) in omega (arith, sized, length-drop at s)
 
--- ---- a search that passes over names which begin otherwise
+-- ---- names told apart by the bytes in front
 
-module _ (s : Bytes) (at b : ℕ) (here : byte s at ≡ b) where
-  other-begins : (c : ℕ) (n : Bytes) → eqb b c ≡ false → begins (c ∷ n) (drop at s) ≡ false
-  unfolding byte begins
-  other-begins c n e = go (drop at s) (getD-drop at s 0 0 ∙ ap (λ (i : ℕ). getD s i 0) (let z : at + 0 ≡ at = omega arith in z) ∙ here)
-    where
-      go : (l : Bytes) → getD l 0 0 ≡ b → begins (c ∷ n) l ≡ false
-      go [] h = refl
-      go (x ∷ xs) h = rw (ap (λ (z : ℕ). eqb z c) h ∙ e, begins)
+-- a name does not stand where the rest of it does not, if its first byte does
+first-stands : (c : ℕ) (n s : Bytes) (at : ℕ) → (eqb (byte s at) c ≡ true → begins n (drop (at + 1) s) ≡ false) → begins (c ∷ n) (drop at s) ≡ false
+unfolding begins
+first-stands c n s at f = go (decLe (length s) at)
+  where
+    go : Dec (length s ≤ at) → begins (c ∷ n) (drop at s) ≡ false
+    go (yes k) = ap (begins (c ∷ n)) (drop-of-length-le s k)
+    go (no k) =
+        ap (begins (c ∷ n)) (byte-drop s at (omega arith))
+        ∙ by-test (eqb (byte s at) c)
+        (λ t. begins-on c (byte s at) n (drop (at + 1) s) t ∙ f t)
+        (λ t. begins-off c (byte s at) n (drop (at + 1) s) t)
 
-  skips : (m : ℕ) (ns : List Bytes) (k : ℕ) → allOther b (take m ns) ≡ true → firstName (drop m ns) s at (k + m) ≡ firstName ns s at k
-  unfolding allOther firstName
-  skips zero ns k h = ap (λ (j : ℕ). firstName ns s at j) (let z : k + 0 ≡ k = omega arith in z)
-  skips (suc m) [] k h = refl
-  skips (suc m) ([] ∷ ns) k h = absurd (false≢true h)
-  skips (suc m) ((c ∷ n) ∷ ns) k h =
-      by-test (eqb b c)
-      (λ t. absurd (false≢true (sym (rw (t, allOther)) ∙ h)))
+-- a name that differs from the bytes at a place does not stand there
+apart-not : (front n s : Bytes) (at : ℕ) → Has front s at → apart front n ≡ true → begins n (drop at s) ≡ false
+unfolding apart
+apart-not [] n s at h e = never false e refl
+apart-not (x ∷ xs) [] s at h e = never false e refl
+apart-not (x ∷ xs) (c ∷ n) s at h e =
+    first-stands c n s at
+    (λ t. apart-not xs n s (at + 1) (h .1) (sym (rw (sym (ap (λ (z : ℕ). eqb z c) (h .0)) ∙ t, apart)) ∙ e))
+
+module _ (front s : Bytes) (at : ℕ) (here : Has front s at) where
+  -- names that are apart are passed over
+  passed : (m : ℕ) (ns : List Bytes) (k : ℕ) → allApart front (take m ns) ≡ true → firstName (drop m ns) s at (k + m) ≡ firstName ns s at k
+  unfolding allApart firstName
+  passed zero ns k h = ap (firstName ns s at) (let z : k + 0 ≡ k = omega arith in z)
+  passed (suc m) [] k h = refl
+  passed (suc m) (n ∷ ns) k h =
+      by-test (apart front n)
       (λ t.
-      ap (λ (j : ℕ). firstName (drop m ns) s at j) (let z : k + suc m ≡ k + 1 + m = omega arith in z)
-      ∙ skips m ns (k + 1) (sym (rw (t, allOther)) ∙ h)
-      ∙ sym (firstName-later (c ∷ n) ns s at k (other-begins c n t)))
+      ap (firstName (drop m ns) s at) (let z : k + suc m ≡ k + 1 + m = omega arith in z)
+      ∙ passed m ns (k + 1) (sym (rw (t, allApart)) ∙ h)
+      ∙ sym (firstName-later n ns s at k (apart-not front n s at here t)))
+      (λ t. never _ h (rw (t, allApart)))
 
-  pub search-passes : (names : List Bytes) (packed : Bytes) (r : Start) → Passes names packed b r → firstName (words (drop (r .place) packed)) s at (r .number) ≡ firstName names s at 0
-  search-passes names packed r p = ap (λ (ws : List Bytes). firstName ws s at (r .number)) (p .rest)
-      ∙ ap (λ (j : ℕ). firstName (drop (r .number) names) s at j) (let z : r .number ≡ 0 + r .number = omega arith in z)
-      ∙ skips (r .number) names 0 (p .others)
+  pub none-here : (ns : List Bytes) (k : ℕ) → allApart front ns ≡ true → firstName ns s at k ≡ NoName
+  unfolding allApart firstName
+  none-here [] k h = refl
+  none-here (n ∷ ns) k h =
+      by-test (apart front n)
+      (λ t. firstName-later n ns s at k (apart-not front n s at here t) ∙ none-here ns (k + 1) (sym (rw (t, allApart)) ∙ h))
+      (λ t. never _ h (rw (t, allApart)))
 
--- a search from the first name on
-pub from-the-first : {r : Start} → r ≡ record { place = 0; number = 0 }
-    → (r .number ≤ r .place) × ((names s : Bytes) (at : ℕ) → firstName (words (drop (r .place) names)) s at (r .number) ≡ firstName (words names) s at 0)
-from-the-first e = (let p = ap (λ (z : Start). z .place) e in let n = ap (λ (z : Start). z .number) e in omega arith, λ names s at. ap (λ (z : Start). firstName (words (drop (z .place) names)) s at (z .number)) e)
+  -- the names from a number on, where those before it are apart
+  pub from-here : (ns : List Bytes) (k : ℕ) → allApart front (take k ns) ≡ true → firstName (drop k ns) s at k ≡ firstName ns s at 0
+  from-here ns k p = ap (firstName (drop k ns) s at) (let z : k ≡ 0 + k = omega arith in z) ∙ passed k ns 0 p
+
+  -- the only name of a table that can stand at a place
+  pub one-here : (ns : List Bytes) (k : ℕ) (n : Bytes) → allApart front (take k ns) ≡ true → drop k ns ≡ n ∷ drop (suc k) ns → allApart front (drop (suc k) ns) ≡ true
+      → firstName (n ∷ []) s at k ≡ firstName ns s at 0
+  unfolding firstName
+  one-here ns k n p d q =
+      by-test (begins n (drop at s))
+      (λ t. firstName-here n [] s at k t ∙ sym (firstName-here n (drop (suc k) ns) s at k t))
+      (λ t. firstName-later n [] s at k t ∙ sym (firstName-later n (drop (suc k) ns) s at k t ∙ none-here (drop (suc k) ns) (k + 1) q))
+      ∙ sym (ap (λ (z : List Bytes). firstName z s at k) d)
+      ∙ from-here ns k p
+
+-- ---- one name
+
+module _ (name s : Bytes) (at k : ℕ) (b : Bool) (f : b ≡ begins name (drop at s)) where
+  pub one-stands : b ≡ true → Name k (at + length name) ≡ firstName (name ∷ []) s at k
+  one-stands h = sym (firstName-here name [] s at k (sym f ∙ h))
+
+  pub one-not : b ≡ false → NoName ≡ firstName (name ∷ []) s at k
+  unfolding firstName
+  one-not h = sym (firstName-later name [] s at k (sym f ∙ h))
+
+  pub one-fits : b ≡ true → length name ≤ length s - at
+  one-fits h = let z = begins-fits name (drop at s) (sym f ∙ h) in omega (arith, length-drop at s)

@@ -4,7 +4,7 @@ use Prim.Native.Nat.{ℕ, suc, _+_, _-_, _*_, _≤_}
 use Prim.Native.String.{String, [] as end, _∷_ as _then-char_}
 use Prim.Native.Char.{code}
 use mathlib.Core.Path.{_≡_}
-use mathlib.Core.Bool.{Bool, true, false}
+use mathlib.Core.Bool.{Bool, true, false, not, _&&_, _||_}
 use mathlib.Core.List.{List, [], _∷_}
 use lib.ListN.{length, getD, take, drop}
 use lib.Dec.{ltb, eqb}
@@ -12,7 +12,6 @@ use Rattle.parts.specs.declared.Number.{Number}
 use Rattle.parts.specs.declared.Number.the-variants.{Num, NoNum}
 use Rattle.parts.specs.declared.Named.{Named}
 use Rattle.parts.specs.declared.Named.the-variants.{Name, NoName}
-use Rattle.parts.specs.declared.Start.{Start}
 
 -- ---- bytes
 
@@ -70,17 +69,20 @@ unfoldable pub words : Bytes → List Bytes
 words [] = []
 words (x ∷ xs) = elim (eqb x 32) [ true ↦ [] ∷ words xs | false ↦ grow x (words xs) ]
 
--- the names of a table that begin with another byte than b, all of them
-unfoldable pub allOther : ℕ → List Bytes → Bool
-allOther b [] = true
-allOther b ([] ∷ ns) = false
-allOther b ((c ∷ n) ∷ ns) = elim (eqb b c) [ true ↦ false | false ↦ allOther b ns ]
+-- a text has these bytes from a place on, one after the other, and past its end zeros
+abbrev pub Has : Bytes → Bytes → ℕ → Type 0
+Has [] s at = Unit {0}
+Has (x ∷ xs) s at = (byte s at ≡ x) × Has xs s (at + 1)
 
--- a start that passes over names, of which none begins with b, and has the others before it
-pub record Passes (names : List Bytes) (packed : Bytes) (b : ℕ) (r : Start) : Type 0 where
-  pub others : allOther b (take (r .number) names) ≡ true
-  pub rest : words (drop (r .place) packed) ≡ drop (r .number) names
-  pub few : r .number ≤ r .place
+-- bytes of a text and a name that differ, so that the name does not stand where the bytes do
+unfoldable pub apart : Bytes → Bytes → Bool
+apart [] n = false
+apart (x ∷ xs) [] = false
+apart (x ∷ xs) (c ∷ n) = not (eqb x c) || apart xs n
+
+unfoldable pub allApart : Bytes → List Bytes → Bool
+allApart front [] = true
+allApart front (n ∷ ns) = apart front n && allApart front ns
 
 -- ---- numbers: decimal, with no leading zero, up to a limit
 

@@ -1,6 +1,7 @@
 // Parts of a slice: the byte at a place, the search of a byte, the comparison with a fixed byte string, the first name of a packed
 // table that stands at a place, and decimal numbers. A place is any number: past the end stands nothing.
 ghost use mathlib.Core.Path.{_≡_};
+ghost use mathlib.Core.List.{[], _∷_};
 ghost use Prim.Native.Nat.{_≤_};
 ghost use lib.ListN.{drop};
 ghost use Rattle.parts.specs.Parts.{byte, nextByte, same, begins, firstName, words, digitOf, numberAt};
@@ -15,18 +16,6 @@ pub enum Number {
 pub enum Named {
     Name(usize, usize),
     NoName,
-}
-
-// From where on a packed table is searched: the place of a name in it, and the name's number.
-pub struct Start {
-    pub place: usize,
-    pub number: usize,
-}
-
-pub fn at_name(place: usize, number: usize) -> Start
-    ensures { λ r. ⌜ r ≡ record { place = place; number = number } ⌝ }
-{
-    Start { place, number }
 }
 
 // The byte at a place, and 0 past the end.
@@ -89,16 +78,8 @@ pub fn begins_at(s: &[u8], at: usize, name: &[u8]) -> bool
 pub fn first_name(s: &[u8], at: usize, names: &[u8]) -> Named
     ensures { λ r. ⌜ r ≡ firstName (words (now (names .entry))) (now (s .entry)) at 0 ⌝ }
 {
-    first_name_from(s, at, names, at_name(0, 0))
-}
-
-// Inner: the first name from a start on that stands at a place.
-pub fn first_name_from(s: &[u8], at: usize, names: &[u8], start: Start) -> Named
-    requires { ⌜ start .number ≤ start .place ⌝ }
-    ensures { λ r. ⌜ r ≡ firstName (words (drop (start .place) (now (names .entry)))) (now (s .entry)) at (start .number) ⌝ }
-{
-    let mut from = start.place;
-    let mut k = start.number;
+    let mut from = 0;
+    let mut k = 0;
     while from < names.len() {
         let e = next_byte(names, from, b' ');
         if begins_at(s, at, &names[from..e]) {
@@ -106,6 +87,16 @@ pub fn first_name_from(s: &[u8], at: usize, names: &[u8], start: Start) -> Named
         }
         from = e + 1;
         k += 1;
+    }
+    Named::NoName
+}
+
+// A name that has number k in its table, if it stands at a place.
+pub fn one_name(s: &[u8], at: usize, name: &[u8], k: usize) -> Named
+    ensures { λ r. ⌜ r ≡ firstName (now (name .entry) ∷ []) (now (s .entry)) at k ⌝ }
+{
+    if begins_at(s, at, name) {
+        return Named::Name(k, at + name.len());
     }
     Named::NoName
 }
@@ -135,13 +126,20 @@ pub fn number_at(s: &[u8], at: usize, limit: usize) -> Number
     if first == 0 {
         return Number::Num(0, at + 1);
     }
-    let mut v = 0;
-    let mut i = at;
+    if first > limit {
+        return Number::Num(0, at);
+    }
+    let mut v = first;
+    let mut i = at + 1;
     while i < s.len() {
-        let d = digit_of(s[i]);
-        if d > 9 {
+        let c = s[i];
+        if c < b'0' {
             return Number::Num(v, i);
         }
+        if c > b'9' {
+            return Number::Num(v, i);
+        }
+        let d = (c - b'0') as usize;
         if v * 10 + d > limit {
             return Number::Num(v, i);
         }

@@ -4,7 +4,7 @@ use mathlib.Core.Path.{_≡_, refl, sym, _∙_}
 use lib.ListN.{length}
 use borrow.Author.Needs.{needs}
 use Rattle.format.specs.Grammar.{runEnd}
-use Rattle.format.proofs.FragmentLaws.{run-past, run-opens, run-closes, run-goes-on}
+use Rattle.format.proofs.FragmentLaws.{run-past, run-stops, run-passes}
 use Rattle.format.proofs.fragments.run_end.Statement.{statement}
 use Rattle.format.proofs.fragments.run_end.Tie as tie
 
@@ -22,10 +22,9 @@ run-end-spec =
     μ-loop
     (λ c. refl)
     (λ c. search needs)
-    (λ c. let l = c .before .before .before .loop in sym (l .inv ∙ run-opens _ (l .i) (omega arith) (c .if1 .taken)))
+    (λ c κs. search needs)
+    (λ c. let l = c .before .before .before .before .loop in sym (l .inv ∙ run-stops _ (l .i) (omega arith) _ (c .before .is-brace .ensures) (c .if1 .taken)))
     (λ c. search needs)
-    (λ c. let l = c .before .before .before .before .before .loop in sym (l .inv ∙ run-closes _ (l .i) (omega arith) (c .before .before .if1 .left) (c .if2 .taken)))
     (λ c. search needs)
-    (λ c. search needs)
-    (λ c. let l = c .before .before .before .before .before .loop in l .inv ∙ run-goes-on _ (l .i) (omega arith) (c .before .before .if1 .left) (c .if2 .left))
+    (λ c. let l = c .before .before .before .before .loop in l .inv ∙ run-passes _ (l .i) (omega arith) _ (c .before .is-brace .ensures) (c .if1 .left))
     (λ c. let l = c .before .loop in sym (l .inv ∙ run-past _ (l .i) (omega arith))))
