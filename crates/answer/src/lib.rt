@@ -2,7 +2,7 @@
 // refusal leaves behind.
 ghost use mathlib.Core.Path.{_≡_};
 ghost use lib.ListN.{length};
-ghost use Rattle.answer.specs.Answer.{numberOf, zeros, limit};
+ghost use Rattle.answer.specs.Answer.{numberOf, zeros};
 
 // Why a call answers something else than OK, in the order of 01's table but for SIZE, BOOK and STATE.
 pub enum Refusal {

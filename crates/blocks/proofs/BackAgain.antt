@@ -1,20 +1,19 @@
 -- Decoding and then encoding: an accepted coding of bytes that are not zero comes back.
-use mathlib.Core.Path.{_≡_, refl, sym, ap, ap₂, _∙_, subst}
+use mathlib.Core.Path.{_≡_, refl, sym, ap, ap₂, _∙_}
 use mathlib.Core.Logic.{_⊎_, inl, inr}
 use Prim.Native.Nat.{ℕ, zero, suc, _+_, _-_, _*_, _/_, _%_, _^_, _≤_, _<_}
-use native.Mathlib.Nat.{lt-of-not-le, mod-one, zero-mod, mod-eq-of-lt, add-comm, one-mul, zero-mul, zero-add}
+use native.Mathlib.Nat.{lt-of-not-le, mod-one, zero-mod, mod-eq-of-lt}
 use native.Mathlib.Numerals.{add-one, one-add}
 use native.Mathlib.Decide.{decLe, ℕ-discrete}
 use native.Mathlib.Omega.{arith}
 use mathlib.Core.Bool.{Bool, true, false}
 use mathlib.Core.Option.{Option, none, some, Option·map}
-use mathlib.Core.List.{List, [], _∷_, _++_, reverse, reverseAux, reverse-cons, reverse-append, reverse-reverse, append-assoc, append-nil}
-use lib.Dec.{eqb}
+use mathlib.Core.List.{[], _∷_, _++_, reverse, reverseAux, reverse-cons, reverse-reverse, append-assoc, append-nil}
 use borrow.Author.Tests.{eqb-true, eqb-false}
-use lib.Pow.{pow-pos, mod-pow-add, recompose}
+use lib.Pow.{mod-pow-add}
 use Rattle.answer.specs.Answer.{Bytes}
-use Rattle.blocks.specs.Blocks.{bit, push, dec, decode, turn, closing, enc, encode, hasZero}
-use Rattle.blocks.proofs.Reading.{dec-zero, dec-data, dec-short, dec-any, dec-mask, dec-run, dec-full, bit-none, at-start}
+use Rattle.blocks.specs.Blocks.{bit, push, dec, decode, closing, enc, encode}
+use Rattle.blocks.proofs.Reading.{dec-zero, dec-data, dec-short, dec-any, dec-mask, dec-run, dec-full, bit-none}
 use Rattle.blocks.proofs.Below.{push-some}
 use Rattle.blocks.proofs.Runs.{enc-turn, turn-zero, turn-zero6, turn-data, turn-data6, turn-mask6, turn-close, turn-run, turn-full}
 

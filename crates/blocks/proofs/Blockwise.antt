@@ -1,11 +1,11 @@
 -- The encoder's blocks, on lists: what seven bytes come to, and what the run behind them.
 use mathlib.Core.Path.{_≡_, refl, sym, ap, ap₂, _∙_}
-use Prim.Native.Nat.{ℕ, zero, suc, _+_, _-_, _*_, _^_, _≤_, _<_}
+use Prim.Native.Nat.{ℕ, suc, _+_, _-_, _*_, _^_, _≤_, _<_}
 use native.Mathlib.Nat.{pow-suc, mul-one, mul-assoc, mul-comm, add-zero}
 use native.Mathlib.Decide.{ℕ-discrete}
 use native.Mathlib.Omega.{arith}
 use mathlib.Core.Bool.{true, false}
-use mathlib.Core.List.{List, [], _∷_, _++_, append-assoc}
+use mathlib.Core.List.{[], _∷_, _++_, append-assoc}
 use lib.ListN.{length, length-append}
 use lib.Pow.{pow-pos}
 use lib.Dec.{ltb, eqb}

@@ -7,7 +7,7 @@ use native.Mathlib.Decide.{ℕ-discrete}
 use native.Mathlib.Omega.{arith}
 use mathlib.Core.Bool.{Bool, true, false, not}
 use mathlib.Core.Logic.{inl, inr}
-use mathlib.Core.List.{List, [], _∷_, _++_, append-assoc, append-nil}
+use mathlib.Core.List.{[], _∷_, _++_, append-assoc, append-nil}
 use lib.ListN.{length, take, drop, getD, set, length-append, length-set, length-drop, drop-of-length-le, take-append-drop}
 use lib.Pow.{pow-mono}
 use lib.Seq.{paste, drop-cons, take-suc, take-add, set-set, length-take-le, getD-drop, sets, sets-eq, length-sets, take-at, drop-at, drop-drop}

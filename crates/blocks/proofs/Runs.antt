@@ -1,16 +1,14 @@
 -- The encoder's equations: what each byte does to the open run, and what the run's state can be.
 use mathlib.Core.Path.{_≡_, refl, ap, _∙_}
-use Prim.Native.Nat.{ℕ, zero, suc, _+_, _-_, _*_, _^_, _≤_, _<_}
+use Prim.Native.Nat.{ℕ, _+_, _-_, _*_, _^_, _≤_, _<_}
 use native.Mathlib.Nat.{pow-suc}
 use native.Mathlib.Numerals.{add-one}
 use lib.Pow.{pow-pos, pow-mono}
 use native.Mathlib.Omega.{arith}
-use mathlib.Core.Bool.{true, false}
-use mathlib.Core.List.{List, [], _∷_, _++_}
-use lib.Dec.{ltb, eqb}
+use mathlib.Core.List.{[], _∷_, _++_}
 use borrow.Author.Tests.{lt-ltb, le-ltb, eq-eqb, ne-eqb}
 use Rattle.answer.specs.Answer.{Bytes}
-use Rattle.blocks.specs.Blocks.{Turn, turned, turn, closing, enc, lastRun}
+use Rattle.blocks.specs.Blocks.{turned, turn, closing, enc, lastRun}
 use Rattle.blocks.specs.Steps.{Open}
 
 -- the coding and the last run follow the turns

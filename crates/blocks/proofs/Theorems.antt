@@ -1,16 +1,16 @@
 -- What is proved of the codec, in the words of specs/: about the definitions, and about the two calls as their promises have them.
 use mathlib.Core.Path.{_≡_, refl, sym, ap, ap₂, _∙_}
-use Prim.Native.Nat.{ℕ, zero, suc, _+_, _≤_, _<_, _/_, zero-le, suc-le-suc}
+use Prim.Native.Nat.{ℕ, suc, _+_, _≤_, _<_, _/_, zero-le, suc-le-suc}
 use native.Mathlib.Omega.{arith}
-use mathlib.Core.Bool.{Bool, true, false}
-use mathlib.Core.Option.{Option, none, some}
-use mathlib.Core.List.{List, [], _∷_, _++_}
-use lib.ListN.{length, drop, getD, replicate, length-append, length-replicate}
+use mathlib.Core.Bool.{true, false}
+use mathlib.Core.Option.{Option, some}
+use mathlib.Core.List.{[], _∷_, _++_}
+use lib.ListN.{length, drop, getD, length-append, length-replicate}
 use Rattle.answer.specs.Answer.{Bytes, limit, zeros, after}
 use Rattle.answer.specs.declared.Outcome.{Outcome}
-use Rattle.answer.specs.declared.Outcome.the-variants.{Done, Refused}
+use Rattle.answer.specs.declared.Outcome.the-variants.{Done}
 use Rattle.blocks.specs.Blocks.{decode, dec, encode, trailing, hasZero}
-use Rattle.blocks.specs.Promises.{given, decoded, decodeAnswer, encodeAnswer, Decodes, Encodes}
+use Rattle.blocks.specs.Promises.{given, decoded, Decodes, Encodes}
 use Rattle.blocks.proofs.Reading.{zero-first, zero-later}
 use Rattle.blocks.proofs.Answers.{fitted-done, decode-blocks, encode-fitted}
 use Rattle.blocks.proofs.ThereAndBack as there

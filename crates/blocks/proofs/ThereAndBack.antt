@@ -6,12 +6,12 @@ use native.Mathlib.Nat.{pow-suc, lt-of-not-le, add-zero, add-suc}
 use native.Mathlib.Numerals.{add-one}
 use native.Mathlib.Decide.{decLe, ℕ-discrete}
 use native.Mathlib.Omega.{arith}
-use mathlib.Core.Bool.{Bool, true, false}
+use mathlib.Core.Bool.{true, false}
 use mathlib.Core.Option.{Option, none, some, Option·map}
-use mathlib.Core.List.{List, [], _∷_, _++_, reverse, reverse-cons, reverse-append, reverse-reverse, append-assoc, append-nil}
-use lib.ListN.{length, replicate, length-append}
+use mathlib.Core.List.{[], _∷_, _++_, reverse, reverse-cons, reverse-append, reverse-reverse, append-assoc, append-nil}
+use lib.ListN.{length, length-append}
 use lib.Pow.{pow-pos, pow-mono}
-use lib.Dec.{eqb, ltb}
+use lib.Dec.{eqb}
 use borrow.Author.Tests.{eq-eqb, ne-eqb, lt-ltb, le-ltb}
 use Rattle.answer.specs.Answer.{Bytes, zeros}
 use Rattle.blocks.specs.Blocks.{push, dec, decode, turned, turn, closing, enc, lastRun, encode, padding, trailing, hasZero}

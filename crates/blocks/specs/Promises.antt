@@ -1,7 +1,7 @@
 -- What `decode` and `encode` promise. 01, "Answer numbers" (the order of refusals, the output after one) and "Blocks".
 use Prim.Native.Nat.{ℕ}
 use mathlib.Core.Path.{_≡_}
-use mathlib.Core.Bool.{Bool, true, false}
+use mathlib.Core.Bool.{true, false}
 use mathlib.Core.Option.{Option, none, some}
 use mathlib.Core.List.{[]}
 use lib.ListN.{length}

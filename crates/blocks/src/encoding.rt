@@ -3,7 +3,6 @@ ghost use mathlib.Core.Path.{_≡_};
 ghost use mathlib.Core.List.{[], _∷_};
 ghost use Prim.Native.Nat.{_+_, _≤_, _<_};
 ghost use lib.ListN.{length};
-ghost use lib.Seq.{sets};
 ghost use lib.Dec.{ltb};
 ghost use Rattle.blocks.specs.Steps.{keep, marks, part, Lesser, Packs, Carrying, Carries, Maskable, Codes, Writes};
 use crate::copies::copy_7;

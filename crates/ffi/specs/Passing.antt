@@ -12,7 +12,6 @@ use Rattle.blocks.specs.Blocks.{decode, encode}
 use Rattle.blocks.specs.Promises.{decodeAnswer, encodeAnswer, given}
 use Rattle.stream.specs.Calls.{receiveResult, receiveStore, takeResult, takeStore, takeOutput, gapResult, gapStore}
 use Rattle.stream.specs.declared.Stream.{Stream}
-use Rattle.rows.specs.Decoding.{Frame}
 use Rattle.rows.specs.Answers.{decodeOf, decodedOf, decodedNumber, decodedStamp, decodedRows, decodedConsumed, rowsAfter}
 use Rattle.rows.specs.Shown.{shownOf}
 use Rattle.text.specs.Answers.{answerBy, bytesBy, keptBy}

@@ -84,18 +84,22 @@ module _ (b : ℕ) where
   pub brace-low : b < code "{" → isBrace b ≡ false
   brace-low l = brace-closes (λ e. omega (arith, e)) ∙ ne-eqb b (code "}") (λ e. omega (arith, e))
 
-module _ (s : Bytes) (at : ℕ) (l : at < length s) (r : Bool) (f : r ≡ isBrace (getD s at 0)) where
-  pub run-stops : r ≡ true → runEnd s at ≡ at
-  run-stops e =
-      by-test (eqb (getD s at 0) (code "{"))
+-- a run that goes on to a place: it ends there, or goes on behind it
+module _ (s : Bytes) (from at : ℕ) (so : runEnd s from ≡ runEnd s at) (l : at < length s) (r : Bool) (f : r ≡ isBrace (getD s at 0)) where
+  pub run-here : r ≡ true → at ≡ runEnd s from
+  run-here e =
+      sym (so
+      ∙ by-test (eqb (getD s at 0) (code "{"))
       (λ t. run-opens s at l (eqb-true _ _ t))
-      (λ t. run-closes s at l (eqb-false _ _ t) (eqb-true _ _ (sym (brace-closes _ (eqb-false _ _ t)) ∙ sym f ∙ e)))
+      (λ t. run-closes s at l (eqb-false _ _ t) (eqb-true _ _ (sym (brace-closes _ (eqb-false _ _ t)) ∙ sym f ∙ e))))
 
-  pub run-passes : r ≡ false → runEnd s at ≡ runEnd s (at + 1)
-  run-passes e =
-      by-test (eqb (getD s at 0) (code "{"))
+  pub run-later : r ≡ false → (j : ℕ) → at + 1 ≡ j → runEnd s from ≡ runEnd s j
+  run-later e j g =
+      so
+      ∙ by-test (eqb (getD s at 0) (code "{"))
       (λ t. never _ (f ∙ brace-opens _ (eqb-true _ _ t)) e)
       (λ t. run-goes-on s at l (eqb-false _ _ t) (eqb-false _ _ (sym (brace-closes _ (eqb-false _ _ t)) ∙ sym f ∙ e)))
+      ∙ ap (runEnd s) g
 
 -- ---- fragments
 

@@ -6,9 +6,9 @@ use mathlib.Core.List.{List, [], _∷_}
 use native.Mathlib.Omega.{arith}
 use lib.ListN.{take, drop}
 use borrow.Author.Tests.{ne-eqb}
-use Rattle.parts.specs.Parts.{Bytes, byte, begins, firstName, Has, apart, allApart}
+use Rattle.parts.specs.Parts.{Bytes, byte, begins, firstName}
 use Rattle.parts.specs.declared.Named.{Named}
-use Rattle.parts.proofs.Tables.{firstName-here, firstName-later}
+use Rattle.parts.proofs.Tables.{Has, apart, allApart, firstName-here, firstName-later}
 use Rattle.format.specs.Grammar.{names, types, hints, bases}
 
 -- a byte that is none of these, the last named first

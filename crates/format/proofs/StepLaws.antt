@@ -61,6 +61,13 @@ module _ (o : Option (List Param)) (r : Scanned) (is : r ≡ scannedOf o) where
   abbrev Good : Option (List Param) → Type 0
   Good o = (o ≡ some (take (r .count) (r .items))) × (r .items ≡ padded (take (r .count) (r .items))) × (r .count ≤ length (r .items))
 
+  pub answer-bad : r .bad ≡ true → o ≡ none
+  answer-bad b = go o is
+    where
+      go : (o : Option (List Param)) → r ≡ scannedOf o → o ≡ none
+      go none e = refl
+      go (some ps) e = never (r .bad) b (ap (λ (z : Scanned). z .bad) e)
+
   pub answer-good : r .bad ≡ false → Good o
   answer-good b = go o is
     where
@@ -241,15 +248,14 @@ module _ (s : Bytes) (items : List Param) (t : Sifted) (g : Going s items t) whe
   unfolding asked
   none-left = ap prepared (append-nil front-items)
 
-  pub going-ends : length s ≤ t .at → (r : Scanned) → r ≡ scannedOf (prepared front-items) → r ≡ scannedOf (scanOf s)
-  going-ends l r e = e ∙ ap scannedOf (sym none-left ∙ ap (judged front-items) (sym (pieces-past s (t .at) (t .counter) l)) ∙ g .so)
+  ends : length s ≤ t .at → prepared front-items ≡ scanOf s
+  ends l = sym none-left ∙ ap (judged front-items) (sym (pieces-past s (t .at) (t .counter) l)) ∙ g .so
 
-  pub going-in-order : length s ≤ t .at → inOrder front-items 0 ≡ true → record { items = items; count = t .written; bad = false } ≡ scannedOf (scanOf s)
-  going-in-order l o =
-      let k : record { items = items; count = t .written; bad = false } ≡ scannedOf (some front-items)
-      = ap₂ (λ (z : List Param) (j : ℕ). record { items = z; count = j; bad = false }) (g .filled .filled) (sym count) in
-      going-ends l (record { items = items; count = t .written; bad = false })
-      (k ∙ ap scannedOf (sym (prepared-in-order front-items (omega (arith, count, g .filled .few)) o)))
+  pub going-ends : length s ≤ t .at → (r : Scanned) → r ≡ scannedOf (prepared front-items) → r ≡ scannedOf (scanOf s)
+  going-ends l r e = e ∙ ap scannedOf (ends l)
+
+  pub going-in-order : length s ≤ t .at → inOrder front-items 0 ≡ true → scanOf s ≡ some front-items
+  going-in-order l o = sym (ends l) ∙ prepared-in-order front-items (omega (arith, count, g .filled .few)) o
 
   -- ---- literal bytes
 
@@ -360,5 +366,5 @@ module _ (s : Bytes) (items : List Param) (t : Sifted) (g : Going s items t) whe
   bad-by l End e h = absurd (let k = end-past s (t .at) (t .counter) e in let z : ⊥ = omega arith in z)
   bad-by l (Bad n) e h = sym (g .so) ∙ ap (judged front-items) (pieces-bad s (t .at) (t .counter) n e)
 
-  pub going-stops : t .at < length s → (r : Stride) → r ≡ strideOf t (nextAt s (t .at) (t .counter)) → r ≡ stride.Bad → (a : Scanned) → a ≡ scannedOf none → a ≡ scannedOf (scanOf s)
-  going-stops l r e h a k = k ∙ ap scannedOf (sym (bad-by l (nextAt s (t .at) (t .counter)) refl (sym e ∙ h)))
+  pub going-stops : t .at < length s → (r : Stride) → r ≡ strideOf t (nextAt s (t .at) (t .counter)) → r ≡ stride.Bad → scanOf s ≡ none
+  going-stops l r e h = bad-by l (nextAt s (t .at) (t .counter)) refl (sym e ∙ h)

@@ -1,9 +1,9 @@
--- A type as one number, and what such numbers say of a text whose parameters stand in order. No rule of 01 stands here: what a text's
+-- A type as one number, and what such numbers say of a text. No rule of 01 stands here: what a text's
 -- parameters are is said by `scanOf` alone. Definitions only.
 use Prim.Native.Nat.{ℕ, _+_, _/_, _%_, _≤_, _<_}
 use mathlib.Core.Path.{_≡_}
 use mathlib.Core.Bool.{true, false}
-use mathlib.Core.Option.{some}
+use mathlib.Core.Option.{none, some}
 use mathlib.Core.List.{List, [], _∷_}
 use lib.ListN.{length, take}
 use lib.Dec.{ltb, eqb}
@@ -15,7 +15,7 @@ use Rattle.format.specs.declared.types.Kind.the-variants as kind
 use Rattle.format.specs.declared.fragments.Param.{Param}
 use Rattle.format.specs.declared.params.Shape.{Shape}
 use Rattle.format.specs.declared.codes.Lined.{Lined}
-use Rattle.format.specs.declared.codes.Lined.the-variants.{Up, Not}
+use Rattle.format.specs.declared.codes.Lined.the-variants.{Up, Bad}
 
 -- the type of some numbers
 unfoldable pub kindOf : Shape → Kind
@@ -43,7 +43,7 @@ unfoldable pub paramsBy : List ℕ → ℕ → List Param
 paramsBy [] k = []
 paramsBy (c ∷ cs) k = record { position = k; kind = kindBy c } ∷ paramsBy cs (k + 1)
 
--- the first n numbers are those of a text's parameters; of a text that does not line up nothing is said
+-- the first n numbers are those of a text's parameters, or the text is FORMAT
 abbrev pub LinesUp : Bytes → List ℕ → Lined → Type 0
 LinesUp s codes (Up n) = (n ≤ length codes) × (scanOf s ≡ some (paramsBy (take n codes) 0))
-LinesUp s codes Not = Unit {0}
+LinesUp s codes Bad = scanOf s ≡ none

@@ -23,11 +23,10 @@ pub use hints::Clock;
 pub use hints::Hint;
 pub use params::Scanned;
 use params::blanks;
-use params::in_order;
 use params::refused;
 use parts::byte_at;
-use sift::Sifted;
 use sift::Stride;
+use sift::begun;
 use sift::finished;
 use sift::step;
 pub use types::Kind;
@@ -78,11 +77,7 @@ pub fn scan(text: &[u8]) -> Scanned
     ensures { λ r. ⌜ r ≡ scannedOf (scanOf (now (text .entry))) ⌝ }
 {
     let mut items = blanks();
-    let mut t = Sifted {
-        written: 0,
-        counter: 0,
-        at: 0,
-    };
+    let mut t = begun();
     while t.at < text.len() {
         match step(text, t) {
             Stride::Past(u) => t = u,
@@ -94,14 +89,5 @@ pub fn scan(text: &[u8]) -> Scanned
             Stride::Bad => return refused(),
         }
     }
-    let n = t.written;
-    // As most texts have them: nothing to sort, and nothing to copy.
-    if in_order(items, n) {
-        return Scanned {
-            items,
-            count: n,
-            bad: false,
-        };
-    }
-    finished(items, n)
+    finished(items, t.written)
 }

@@ -21,6 +21,17 @@ pub struct Sifted {
     pub at: usize,
 }
 
+// Inner: a scan at the start of a text.
+pub fn begun() -> Sifted
+    ensures { λ r. ⌜ r ≡ record { written = 0; counter = 0; at = 0 } ⌝ }
+{
+    Sifted {
+        written: 0,
+        counter: 0,
+        at: 0,
+    }
+}
+
 // What a fragment does to a scan: literal bytes are passed, and a parameter is asked for; or the text is FORMAT.
 pub enum Stride {
     Past(Sifted),

@@ -1,9 +1,8 @@
 -- The numbers that lines tell, and what a piece that is given leaves behind.
 use Prim.Native.Nat.{ℕ}
 use mathlib.Core.Path.{_≡_, refl, sym, ap, _∙_, subst}
-use mathlib.Core.Bool.{Bool, true, false, false≢true}
+use mathlib.Core.Bool.{true, false, false≢true}
 use mathlib.Core.List.{_++_}
-use lib.Dec.{eqb}
 use borrow.Author.Tests.{eq-eqb, ne-eqb}
 use Rattle.answer.specs.Answer.{Bytes, numberOf}
 use Rattle.answer.specs.declared.Refusal.{Refusal}
@@ -12,12 +11,12 @@ use Rattle.answer.specs.declared.Verdict.{Verdict}
 use Rattle.answer.specs.declared.Verdict.the-variants as verdict
 use Rattle.put.specs.Put.{Put}
 use Rattle.put.proofs.Writes.{put-as, _then_}
-use Rattle.stream.specs.Calls.{Receives, Gaps, hold, receiveAnswer, receiveResult, receiveStore, gapResult, gapStore, stateAfter, storeAfter, passes}
+use Rattle.stream.specs.Calls.{Receives, Gaps, hold, receiveAnswer, receiveResult, receiveStore, gapResult, gapStore, storeAfter, passes}
 use Rattle.stream.specs.Stream.{Hold, received as received-hold}
 use Rattle.stream.specs.declared.Stream.{Stream}
 use Rattle.stream.specs.declared.Received.{Received}
 use Rattle.stream.specs.declared.Gapped.{Gapped}
-use Rattle.lines.specs.Lines.{toldNumber, refusalLine, verdictLine, isFull, Gave, behind, receiveOf, againOf, giveOf}
+use Rattle.lines.specs.Lines.{toldNumber, refusalLine, verdictLine, isFull, receiveOf, againOf, giveOf}
 use Rattle.lines.specs.Steps.{Gives}
 use Rattle.lines.specs.declared.Given.{Given}
 

@@ -1,5 +1,5 @@
 -- One message is taken: what its text's answer and the stream's say of the line and of the buffers.
-use Prim.Native.Nat.{ℕ, _+_, _≤_, _<_}
+use Prim.Native.Nat.{ℕ, _+_, _≤_}
 use mathlib.Core.Path.{_≡_, refl, sym, ap, _∙_, subst}
 use mathlib.Core.Bool.{Bool, true, false}
 use mathlib.Core.List.{List, [], _++_}
@@ -16,8 +16,8 @@ use Rattle.answer.specs.declared.Outcome.{Outcome}
 use Rattle.answer.specs.declared.Outcome.the-variants as outcome
 use Rattle.answer.specs.declared.Verdict.the-variants as verdict
 use Rattle.blocks.specs.Blocks.{hasZero, decode}
-use Rattle.blocks.specs.Promises.{decoded, given, fitted}
-use Rattle.stream.specs.Calls.{Takes, frame, claims, leavesFrame, takeAnswer, takeResult, takeStore, takeOutput}
+use Rattle.blocks.specs.Promises.{decoded, given}
+use Rattle.stream.specs.Calls.{Takes, frame, claims, takeAnswer, takeResult, takeOutput}
 use Rattle.stream.specs.declared.Stream.{Stream}
 use Rattle.stream.specs.declared.Taken.{Taken}
 use Rattle.stream.proofs.Results.{claims-cases}
@@ -32,10 +32,9 @@ use Rattle.text.specs.Text.{askedOf}
 use Rattle.text.specs.Answers.{roomed, bytesIn, answerBy, bytesBy, keptBy, Texts}
 use Rattle.text.specs.declared.Which.{Which}
 use Rattle.text.specs.declared.Which.the-variants as which
-use Rattle.lines.specs.Lines.{refusalLine, textLine, stopLine, outcomeLine, textAnswer, textBytes, textRows, Desk, Took, taken, held, tookBy, tookOf}
+use Rattle.lines.specs.Lines.{refusalLine, textLine, stopLine, outcomeLine, textAnswer, textBytes, textRows, Desk, held, tookBy, tookOf}
 use Rattle.lines.specs.Steps.{PutsMessage}
 use Rattle.lines.specs.Steps as steps
-use Rattle.lines.specs.declared.Turn.{Turn}
 
 pub stop-wait : (r : Refusal) (n : ℕ) → n ≡ numberOf r → n ≡ 3 → [] ≡ stopLine r
 unfolding stopLine

@@ -1,7 +1,6 @@
 -- 01, "Text", the program: the lines that a capture gives. Definitions only.
 use Prim.Native.Nat.{ℕ, zero, suc, _+_}
 use mathlib.Core.Bool.{Bool, true, false}
-use mathlib.Core.Path.{_≡_}
 use mathlib.Core.List.{List, [], _∷_, _++_}
 use lib.ListN.{length, take}
 use lib.Dec.{eqb, leb}
@@ -12,7 +11,7 @@ use Rattle.answer.specs.declared.Verdict.{Verdict}
 use Rattle.answer.specs.declared.Verdict.the-variants as verdict
 use Rattle.answer.specs.declared.Outcome.{Outcome}
 use Rattle.answer.specs.declared.Outcome.the-variants as outcome
-use Rattle.put.specs.Put.{Put, spelled}
+use Rattle.put.specs.Put.{spelled}
 use Rattle.put.specs.Numbers.{number}
 use Rattle.stream.specs.Calls.{receiveResult, receiveStore, gapResult, gapStore, takeResult, takeStore, takeOutput, leavesFrame}
 use Rattle.stream.specs.declared.Stream.{Stream}

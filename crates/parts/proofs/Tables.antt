@@ -1,14 +1,14 @@
 -- Packed tables of names. Assumes nothing.
 use Prim.Native.Nat.{ℕ, zero, suc, _+_, _-_, _<_, _≤_}
 use mathlib.Core.Path.{_≡_, refl, sym, ap, _∙_}
-use mathlib.Core.Bool.{Bool, true, false}
+use mathlib.Core.Bool.{Bool, true, false, not, _&&_, _||_}
 use mathlib.Core.List.{List, [], _∷_}
 use native.Mathlib.Omega.{arith}
 use native.Mathlib.Decide.{decLe}
 use lib.ListN.{length, take, drop, length-drop, drop-of-length-le}
 use lib.Seq.{drop-drop}
 use lib.Dec.{eqb}
-use Rattle.parts.specs.Parts.{Bytes, byte, part, span, nextByte, begins, firstName, grow, words, Has, apart, allApart}
+use Rattle.parts.specs.Parts.{Bytes, byte, part, span, nextByte, begins, firstName, grow, words}
 use Rattle.parts.specs.declared.Named.{Named}
 use Rattle.parts.specs.declared.Named.the-variants.{Name, NoName}
 use Rattle.parts.proofs.Places.{by-test, never, byte-drop, span-passed, part-length, nextByte-within}
@@ -114,6 +114,21 @@ module _ (s names : Bytes) (at from k : ℕ) (r : Named) (so : firstName (words 
     found-fits h most p q = let z = begins-fits (part names from e) (drop at s) (there ∙ h) in omega (arith, sized, length-drop at s)
 
 -- ---- names told apart by the bytes in front
+
+-- a text has these bytes from a place on, one after the other, and past its end zeros
+abbrev pub Has : Bytes → Bytes → ℕ → Type 0
+Has [] s at = Unit {0}
+Has (x ∷ xs) s at = (byte s at ≡ x) × Has xs s (at + 1)
+
+-- bytes of a text and a name that differ, so that the name does not stand where the bytes do
+unfoldable pub apart : Bytes → Bytes → Bool
+apart [] n = false
+apart (x ∷ xs) [] = false
+apart (x ∷ xs) (c ∷ n) = not (eqb x c) || apart xs n
+
+unfoldable pub allApart : Bytes → List Bytes → Bool
+allApart front [] = true
+allApart front (n ∷ ns) = apart front n && allApart front ns
 
 -- a name does not stand where the rest of it does not, if its first byte does
 first-stands : (c : ℕ) (n s : Bytes) (at : ℕ) → (eqb (byte s at) c ≡ true → begins n (drop (at + 1) s) ≡ false) → begins (c ∷ n) (drop at s) ≡ false

@@ -1,10 +1,9 @@
 -- Parts of a slice, as 01's "Book" speaks of them: bytes at places, names compared byte for byte, numbers with no leading zero.
 -- Definitions only.
-use Prim.Native.Nat.{ℕ, suc, _+_, _-_, _*_, _≤_}
+use Prim.Native.Nat.{ℕ, suc, _+_, _-_, _*_}
 use Prim.Native.String.{String, [] as end, _∷_ as _then-char_}
 use Prim.Native.Char.{code}
-use mathlib.Core.Path.{_≡_}
-use mathlib.Core.Bool.{Bool, true, false, not, _&&_, _||_}
+use mathlib.Core.Bool.{Bool, true, false}
 use mathlib.Core.List.{List, [], _∷_}
 use lib.ListN.{length, getD, take, drop}
 use lib.Dec.{ltb, eqb}
@@ -68,21 +67,6 @@ grow x (w ∷ ws) = (x ∷ w) ∷ ws
 unfoldable pub words : Bytes → List Bytes
 words [] = []
 words (x ∷ xs) = elim (eqb x 32) [ true ↦ [] ∷ words xs | false ↦ grow x (words xs) ]
-
--- a text has these bytes from a place on, one after the other, and past its end zeros
-abbrev pub Has : Bytes → Bytes → ℕ → Type 0
-Has [] s at = Unit {0}
-Has (x ∷ xs) s at = (byte s at ≡ x) × Has xs s (at + 1)
-
--- bytes of a text and a name that differ, so that the name does not stand where the bytes do
-unfoldable pub apart : Bytes → Bytes → Bool
-apart [] n = false
-apart (x ∷ xs) [] = false
-apart (x ∷ xs) (c ∷ n) = not (eqb x c) || apart xs n
-
-unfoldable pub allApart : Bytes → List Bytes → Bool
-allApart front [] = true
-allApart front (n ∷ ns) = apart front n && allApart front ns
 
 -- ---- numbers: decimal, with no leading zero, up to a limit
 

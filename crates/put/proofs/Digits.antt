@@ -77,7 +77,7 @@ half-small b n k h s =
     div-lt-iff-lt-mul p .1 l
 
 -- a store in front of what stands
-drop-set : (buf : Bytes) (j x : ℕ) → j < length buf → drop j (set buf j x) ≡ x ∷ drop (suc j) buf
+pub drop-set : (buf : Bytes) (j x : ℕ) → j < length buf → drop j (set buf j x) ≡ x ∷ drop (suc j) buf
 drop-set buf j x h = ap (drop j) (set-split buf j x h) ∙ drop-at (take j buf) (x ∷ drop (suc j) buf) j (length-take-le j buf (omega arith))
 
 -- of the digits of m those of n are still to come, in front of the k bytes that stand

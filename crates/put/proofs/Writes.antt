@@ -1,5 +1,5 @@
 -- The laws of `Put`: writing one text and then another is writing both, whether or not there is room. Writers above this crate cite them.
-use Prim.Native.Nat.{ℕ, zero, suc, _+_, _-_, _≤_, _<_}
+use Prim.Native.Nat.{ℕ, suc, _+_, _-_, _≤_, _<_}
 use mathlib.Core.Path.{_≡_, refl, sym, ap, _∙_, subst}
 use mathlib.Core.Logic.{_↔_}
 use mathlib.Core.List.{[], _∷_, _++_, append-assoc, append-nil}

@@ -24,9 +24,9 @@ use Rattle.book.specs.declared.Clock.the-variants as time
 use Rattle.values.specs.Values.{little, countAt}
 use Rattle.values.specs.declared.Count.the-variants as count
 use Rattle.rows.specs.Rows.{Row, width, flat, Out, refused, done}
-use Rattle.rows.specs.Decoding.{Given, textOf, levels, topOf, Frame, none-of, frame, stampBy, wholeBy, messageBy, afterStamp, frameOf}
+use Rattle.rows.specs.Decoding.{Given, textOf, levels, Frame, none-of, frame, stampBy, wholeBy, messageBy, afterStamp, frameOf}
 use Rattle.rows.specs.Answers.{capOf, given, judgedBy, decodeOf, decodedOf, rowsAfter}
-use Rattle.rows.specs.Steps.{by, Wrote, bodyBy, WroteAll}
+use Rattle.rows.specs.Steps.{by, Wrote, topOf, bodyBy, WroteAll}
 use Rattle.rows.specs.declared.placing.Cursor.{Cursor}
 use Rattle.rows.specs.declared.placing.Step.{Step}
 use Rattle.rows.specs.declared.placing.Step.the-variants.{Next, Refused}

@@ -7,7 +7,7 @@ use mathlib.Core.List.{List, [], _∷_}
 use native.Mathlib.Omega.{arith}
 use native.Mathlib.Numerals.{add-one}
 use lib.ListN.{length, take, drop, getD, drop-of-length-le}
-use lib.Seq.{sets, drop-cons, getD-take, length-take-le}
+use lib.Seq.{sets, drop-cons}
 use lib.Dec.{eqb}
 use Rattle.answer.specs.declared.Refusal.{Refusal}
 use Rattle.answer.specs.declared.Refusal.the-variants as refusal
@@ -17,15 +17,13 @@ use Rattle.book.specs.Book.{checked, find, textAt}
 use Rattle.book.proofs.Texts.{found-inside, stored}
 use Rattle.book.specs.declared.Found.{Found}
 use Rattle.book.specs.declared.Found.the-variants as found
-use Rattle.format.specs.Params.{scanOf, scannedOf, blank}
+use Rattle.format.specs.Params.{scanOf, blank}
 use Rattle.format.specs.Codes.{paramsBy, LinesUp}
-use Rattle.format.proofs.StepLaws.{answer-good}
-use Rattle.format.proofs.Lining.{lined-up}
+use Rattle.format.proofs.Lining.{lined-up, lined-bad}
 use Rattle.format.specs.declared.types.Kind.{Kind}
 use Rattle.format.specs.declared.fragments.Param.{Param}
-use Rattle.format.specs.declared.params.Scanned.{Scanned}
 use Rattle.format.specs.declared.codes.Lined.{Lined}
-use Rattle.format.specs.declared.codes.Lined.the-variants.{Up}
+use Rattle.format.specs.declared.codes.Lined.the-variants.{Up, Bad}
 use Rattle.values.specs.Values.{countAt}
 use Rattle.values.specs.declared.Count.{Count}
 use Rattle.values.specs.declared.Count.the-variants as count
@@ -248,31 +246,14 @@ module _ (d : ℕ) (g : Given) (t : Bytes) (row at : ℕ) (h : d ≡ 0 → ⊥) 
   level : textOf d g t row at ≡ textOf (suc (d - 1)) g t row at
   level = let e : d ≡ suc (d - 1) = omega (arith, h) in ap (λ (k : ℕ). textOf k g t row at) e
 
-  pub text-any : Wrote (textOf (suc (d - 1)) g t row at) row old new r → Wrote (textOf d g t row at) row old new r
-  text-any w = wrote-as _ row old new r _ level w
-
   pub text-lined : (codes : List ℕ) (x : Lined) (n : ℕ) → LinesUp t codes x → x ≡ Up n
       → Wrote (argumentsOf g (textOf (d - 1) g) (paramsBy (take n codes) 0) row at) row old new r → Wrote (textOf d g t row at) row old new r
   text-lined codes x n says e w = wrote-as _ row old new r _ (level ∙ deeper (d - 1) g t row at _ (lined-up t codes x n says e .1)) w
 
-never-good : (o : Option (List Param)) (x : Scanned) → x ≡ scannedOf o → x .bad ≡ true → o ≡ none
-never-good none x e b = refl
-never-good (some ps) x e b = absurd (let z : _≡_ {A = ℕ} 0 1 = cc (sym b ∙ ap (λ (s : Scanned). s .bad) e) in omega arith)
-
--- a scan's answer: FORMAT, or the parameters that it holds
-module _ (d : ℕ) (g : Given) (t : Bytes) (row at : ℕ) (x : Scanned) (is : x ≡ scannedOf (scanOf t)) where
-  pub text-bad : (old new : List ℕ) → x .bad ≡ true → Wrote (textOf (suc d) g t row at) row old new (Refused refusal.Format)
-  text-bad old new b = wrote-refused _ row old new refusal.Format (deeper d g t row at none (never-good (scanOf t) x is b))
-
-  pub text-good : x .bad ≡ false → textOf (suc d) g t row at ≡ argumentsOf g (textOf d g) (take (x .count) (x .items)) row at
-  text-good b = deeper d g t row at _ (answer-good (scanOf t) x is b .0)
-
-module _ (t : Bytes) (x : Scanned) (is : x ≡ scannedOf (scanOf t)) (good : x .bad ≡ false) where
-  pub scanned-count : length (take (x .count) (x .items)) ≡ x .count
-  scanned-count = length-take-le (x .count) (x .items) (answer-good (scanOf t) x is good .2)
-
-  pub scanned-kind : (k : ℕ) → k < x .count → getD (x .items) k blank .kind ≡ getD (take (x .count) (x .items)) k blank .kind
-  scanned-kind k h = ap (λ (p : Param). p .kind) (sym (getD-take (x .count) (x .items) k blank h))
+  pub text-bad : (codes : List ℕ) (x : Lined) → LinesUp t codes x → x ≡ Bad → r ≡ Refused refusal.Format → Wrote (textOf d g t row at) row old new r
+  text-bad codes x says e is =
+      subst (Wrote (textOf d g t row at) row old new) (sym is)
+      (wrote-refused _ row old new refusal.Format (level ∙ deeper (d - 1) g t row at none (lined-bad t codes x says e)))
 
 -- ---- the loops over elements and over arguments
 

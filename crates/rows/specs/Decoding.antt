@@ -1,11 +1,11 @@
 -- 01, "Rows and decoding": what a message decodes to by a book, in at most `cap` rows. Each reader has the row that it may claim next and
 -- the place in the message where it begins. Definitions only.
-use Prim.Native.Nat.{ℕ, zero, suc, _+_, _/_, min}
+use Prim.Native.Nat.{ℕ, zero, suc, _+_}
 use mathlib.Core.Bool.{Bool, true, false}
 use mathlib.Core.Option.{Option, none, some}
 use mathlib.Core.List.{List, [], _∷_, _++_}
 use lib.ListN.{length}
-use lib.Dec.{eqb, leb, ltb}
+use lib.Dec.{eqb, leb}
 use Rattle.answer.specs.declared.Refusal.{Refusal}
 use Rattle.answer.specs.declared.Refusal.the-variants as refusal
 use Rattle.parts.specs.Parts.{Bytes}
@@ -25,7 +25,7 @@ use Rattle.values.specs.Values.{little, unsignedAt, signedAt, boolAt, charAt, b
 use Rattle.values.specs.declared.Read.{Read}
 use Rattle.values.specs.declared.Read.the-variants.{Value, Short, Bad}
 use Rattle.rows.specs.Kinds.{BOOL, UNSIGNED, SIGNED, SINGLE, DOUBLE, STR, ISTR, FORMAT, SLICE, ELEMENT, SEQUENCE, BYTES, CHAR, PREFORMATTED}
-use Rattle.rows.specs.Rows.{Row, Out, refused, done, one, over, before, andThen, claim}
+use Rattle.rows.specs.Rows.{Row, Out, refused, done, one, over, andThen, claim}
 
 -- what decoding goes by
 pub record Given : Type 0 where
@@ -193,10 +193,6 @@ module _ (g : Given) (inner : Bytes → ℕ → ℕ → Out) where
   argumentsOf (p ∷ ps) row at = andThen (valueOf (p .kind) row at) (argumentsOf ps) row
 
 -- ==== a whole message ====
-
--- the lookup of the index that a message begins with: absent where the message has no index
-unfoldable pub topOf : Bytes → Bytes → Found
-topOf b m = elim (leb 2 (length m)) [ true ↦ find b (little m 0 2) | false ↦ found.Absent ]
 
 -- the arguments of a text, with d levels allowed from here on: DEPTH before FORMAT, and FORMAT before the first argument
 unfoldable pub textOf : ℕ → Given → Bytes → ℕ → ℕ → Out

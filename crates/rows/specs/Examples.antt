@@ -1,7 +1,7 @@
 -- Worked examples, by computation: 01's own book and message, and a book that nests.
 use mathlib.Core.Path.{_≡_, refl}
 use Prim.Native.Nat.{ℕ}
-use mathlib.Core.List.{List, [], _∷_, _++_, map}
+use mathlib.Core.List.{[], _∷_, _++_, map}
 use Rattle.answer.specs.declared.Refusal.the-variants as refusal
 use Rattle.parts.specs.Parts as parts
 use Rattle.utf8.specs.Utf8 as utf8
@@ -16,7 +16,7 @@ use Rattle.answer.specs.Answer.{zeros}
 use Rattle.rows.specs.Rows.{Row}
 use Rattle.rows.specs.Answers.{capOf, decodeOf, decodedOf, rowsAfter}
 use Rattle.rows.specs.declared.frames.Decoded.the-variants.{Refused}
-use Rattle.rows.specs.Decoding.{Given, indexAt, innerText, variantIn, variantAt, istrOf, formatOf, elementOf, elementsOf, sliceOf, countedOf, itemsOf, sequenceOf, valueOf, argumentsOf, textOf, Frame, none-of, frame, frameOf}
+use Rattle.rows.specs.Decoding.{indexAt, innerText, variantIn, variantAt, istrOf, formatOf, elementOf, elementsOf, sliceOf, countedOf, itemsOf, sequenceOf, valueOf, argumentsOf, textOf, Frame, none-of, frame, frameOf}
 
 unfoldable own : parts.Bytes
 own = parts.bytes "book=1\nclock=no\ntimestamp=\nindex=7\ntag=info\ntext=T {=u8} {=i16}\n"

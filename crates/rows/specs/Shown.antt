@@ -1,7 +1,6 @@
 -- 01, "Rows and decoding", the string call: which part of the message or of the book a row's words name. Definitions only.
 use Prim.Native.Nat.{ℕ, _+_}
 use mathlib.Core.Bool.{Bool, true, false}
-use mathlib.Core.List.{List}
 use lib.ListN.{length, take, drop}
 use lib.Dec.{eqb, leb}
 use Rattle.answer.specs.declared.Verdict.{Verdict}

@@ -17,7 +17,7 @@ use Rattle.format.specs.declared.types.Width.{Width}
 use Rattle.format.specs.declared.types.Width.the-variants.{W8, W16, W32, W64, W128, Size}
 use Rattle.format.specs.declared.types.Kind.{Kind}
 use Rattle.format.specs.declared.types.Kind.the-variants as kind
-use Rattle.values.specs.Values.{countAt, unsignedAt, signedAt, boolAt, charAt, bytesAt, sliceAt, strAt, preformattedAt, bitsAt}
+use Rattle.values.specs.Values.{little, countAt, unsignedAt, signedAt, boolAt, charAt, bytesAt, sliceAt, strAt, preformattedAt, bitsAt}
 use Rattle.values.specs.declared.Count.{Count}
 use Rattle.values.specs.declared.Count.the-variants as count
 use Rattle.values.specs.declared.Read.{Read}
@@ -163,6 +163,10 @@ WroteItem (gives o) row old new (turn.Item r) = Wrote o row old new r
 unfoldable pub WroteItems : Items → ℕ → List ℕ → List ℕ → Listed → Type 0
 WroteItems (stopped f) row old new r = r ≡ listed.Stopped f
 WroteItems (ended n rs at) row old new r = (r ≡ listed.Ended n (record { at = at; row = row + length rs })) × (new ≡ sets old (row * width) (flat rs))
+
+-- the lookup of the index that a message begins with: absent where the message has no index
+unfoldable pub topOf : Bytes → Bytes → Found
+topOf b m = elim (leb 2 (length m)) [ true ↦ find b (little m 0 2) | false ↦ found.Absent ]
 
 -- the arguments of an index that was looked up, which may have any tag
 abbrev pub bodyBy : Given → Found → ℕ → ℕ → Out

@@ -388,7 +388,7 @@ fn argument(
     }
 }
 
-// The arguments of a text whose parameters stand in order, by the numbers of their types.
+// The arguments of a text, by the numbers of their types.
 fn in_turn(
     book: &[u8],
     message: &[u8],
@@ -407,43 +407,6 @@ fn in_turn(
     let mut k = 0;
     while k < codes.len() {
         let kind = format::kind_by(codes[k]);
-        match argument(book, message, rows, cap, stand, depth, kind) {
-            Step::Next(e) => {
-                stand = e;
-            }
-            Step::Refused(m) => {
-                return Step::Refused(m);
-            }
-        }
-        k += 1;
-    }
-    Step::Next(stand)
-}
-
-// The arguments of any text, whose parameters are put in the order of their positions; `depth` counts the levels below it.
-fn by_position(
-    book: &[u8],
-    message: &[u8],
-    rows: &mut [u64],
-    cap: usize,
-    c: Cursor,
-    depth: usize,
-    text: &[u8],
-) -> Step
-    requires { ⌜ checked (now book) ≡ Ok ⌝ }
-    requires { ⌜ cap * width ≤ length (now rows) ⌝ }
-    ensures { λ r. ⌜ Wrote (textOf (suc depth) (by (now (book .entry)) (now (message .entry)) cap) (now (text .entry)) (c .row) (c .at)) (c .row) (now (rows .entry)) (now (rows .exit)) r ⌝ }
-{
-    let scanned = format::scan(text);
-    if scanned.bad {
-        return Step::Refused(Refusal::Format);
-    }
-    let items = scanned.items;
-    let mut stand = c;
-    let mut k = 0;
-    while k < scanned.count {
-        let p = items[k];
-        let kind = p.kind;
         match argument(book, message, rows, cap, stand, depth, kind) {
             Step::Next(e) => {
                 stand = e;
@@ -477,6 +440,6 @@ pub fn arguments(
     let mut codes = [0; 32];
     match format::line_up(text, &mut codes) {
         Lined::Up(n) => in_turn(book, message, rows, cap, c, depth - 1, &codes[..n]),
-        Lined::Not => by_position(book, message, rows, cap, c, depth - 1, text),
+        Lined::Bad => Step::Refused(Refusal::Format),
     }
 }

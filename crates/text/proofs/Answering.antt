@@ -21,8 +21,9 @@ use Rattle.book.specs.declared.Found.{Found}
 use Rattle.values.specs.Values.{little}
 use Rattle.put.specs.Put.{Bytes}
 use Rattle.rows.specs.Rows.{Row, flat}
-use Rattle.rows.specs.Decoding.{topOf, Frame, none-of, frame, frameOf}
+use Rattle.rows.specs.Decoding.{Frame, none-of, frame, frameOf}
 use Rattle.rows.specs.Answers.{capOf, given, decodeOf, judgedBy, decodedOf, rowsAfter}
+use Rattle.rows.specs.Steps.{topOf}
 use Rattle.rows.specs.declared.frames.Decoded.{Decoded}
 use Rattle.rows.specs.declared.frames.Decoded.the-variants as decoded
 use Rattle.rows.proofs.Bounds.{Fits, FitsFrame, frame-fits}

@@ -4,9 +4,10 @@ use mathlib.Core.Path.{_≡_, refl, sym, ap, ap₂, _∙_, subst}
 use mathlib.Core.List.{[], _∷_, _++_, append-nil}
 use native.Mathlib.Omega.{arith}
 use lib.ListN.{length, set, take, drop, length-set, length-drop, drop-of-length-le}
-use lib.Seq.{set-split, drop-at, append-snoc, length-take-le, take-all}
+use lib.Seq.{append-snoc, take-all}
 use Rattle.put.specs.Put.{Bytes}
 use Rattle.put.specs.Numbers.{wide}
+use Rattle.put.proofs.Digits.{drop-set}
 use Rattle.text.specs.Leaves.{fieldWidth, fieldOf, highFirst, fieldBytes}
 use Rattle.text.specs.LeafSteps.{Ends}
 
@@ -34,10 +35,6 @@ filling-none count m buf e h = record {
   size = e;
   text = λ d f. let g : d ≡ count = omega arith in ap₂ (λ (a : ℕ) (l : Bytes). highFirst a m ++ l) g (drop-of-length-le buf {i = 16} (omega arith)) ∙ append-nil _;
 }
-
--- a store in front of what stands
-drop-set : (buf : Bytes) (j x : ℕ) → j < length buf → drop j (set buf j x) ≡ x ∷ drop (suc j) buf
-drop-set buf j x h = ap (drop j) (set-split buf j x h) ∙ drop-at (take j buf) (x ∷ drop (suc j) buf) j (length-take-le j buf (omega arith))
 
 more : (count m : ℕ) (buf : Bytes) (j n : ℕ) → 16 - count < suc j → Filling count m buf (suc j) n → Filling count m (set buf j (n % 256)) j (n / 256)
 more count m buf j n h f =

@@ -1,13 +1,13 @@
 -- The readers' answers, case by case.
 use Prim.Native.Nat.{ℕ, _+_, _-_, _*_, _/_, _%_, _^_, _≤_, _<_}
 use mathlib.Core.Path.{_≡_, refl, sym, ap, ap₂, _∙_}
-use mathlib.Core.Bool.{Bool, true, false}
+use mathlib.Core.Bool.{true, false}
 use native.Mathlib.Omega.{arith}
 use lib.ListN.{length}
-use lib.Dec.{leb, ltb}
+use lib.Dec.{leb}
 use borrow.Author.Tests.{lt-ltb, le-ltb, leb-true, le-leb, lt-leb}
 use Rattle.parts.specs.Parts.{Bytes, byte, part, nextByte}
-use Rattle.parts.proofs.Places.{by-test, nextByte-within}
+use Rattle.parts.proofs.Places.{by-test}
 use Rattle.utf8.specs.Utf8.{valid, isScalar}
 use Rattle.values.specs.Values.{little, inWords, unsignedAt, countAt, extended, signedAt, boolAt, charAt, bytesAt, sliceAt, judged, strAt, runTo, preformattedAt, widthOf, bitsWidth, bitsAt}
 use Rattle.values.specs.Steps.{Holds, Inside}

@@ -1,16 +1,14 @@
 -- Numbers of two words.
 use Prim.Native.Nat.{ℕ, zero, suc, _+_, _-_, _*_, _/_, _%_, _^_, _≤_, _<_}
-use mathlib.Core.Path.{_≡_, refl, sym, ap, ap₂, _∙_}
-use mathlib.Core.Bool.{true, false}
-use native.Mathlib.Nat.{pow-suc, mul-assoc, add-mul-mod-self-left, mod-eq-of-lt, div-add-mod, div-eq-of-lt, mul-comm, mul-add, add-mul, add-comm, lt-of-lt-of-le}
+use mathlib.Core.Path.{_≡_, refl, sym, ap, _∙_}
+use native.Mathlib.Nat.{pow-suc, mul-assoc, add-mul-mod-self-left, div-add-mod, add-mul, add-comm, lt-of-lt-of-le}
 use native.Mathlib.Numerals.{add-one}
 use native.Mathlib.Omega.{arith}
 use lib.Arith.{digits-div, digits-mod, digits-lt}
-use lib.Pow.{field, mod-mod-pow, pow-lt, pow-mono, pow-pos, pow-add, high-ones}
-use lib.Dec.{ltb}
+use lib.Pow.{field, mod-mod-pow, pow-mono, pow-pos, pow-add, high-ones}
 use borrow.Author.Tests.{lt-ltb, le-ltb}
 use Rattle.values.specs.Values.{extended}
-use Rattle.values.specs.Steps.{Holds, Shifts, ShiftsBy}
+use Rattle.values.specs.Steps.{Holds, Shifts}
 use Rattle.values.specs.declared.Words.{Words}
 use Rattle.values.proofs.Littles.{below-word}
 

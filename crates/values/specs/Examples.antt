@@ -1,8 +1,7 @@
 -- Worked examples, by computation.
 use mathlib.Core.Path.{_≡_, refl}
-use Prim.Native.Nat.{ℕ}
 use mathlib.Core.List.{[], _∷_}
-use Rattle.parts.specs.Parts.{Bytes, byte, part, span, nextByte}
+use Rattle.parts.specs.Parts.{byte, part, span, nextByte}
 use Rattle.utf8.specs.Utf8.{valid, formed, follow, within, table, isScalar}
 use Rattle.values.specs.Values.{little, inWords, unsignedAt, extended, signedAt, boolAt, charAt, bytesAt, sliceAt, judged, strAt, runTo, preformattedAt, widthOf, bitsWidth, bitsAt}
 use Rattle.values.specs.declared.Read.the-variants.{Value, Short, Bad}

@@ -1,7 +1,6 @@
 -- 01, "Rows and decoding": the values that nest nothing, each read from a place of the message. Definitions only.
 use Prim.Native.Nat.{ℕ, zero, suc, _+_, _-_, _*_, _/_, _%_, _^_}
-use mathlib.Core.Bool.{Bool, true, false}
-use mathlib.Core.List.{List}
+use mathlib.Core.Bool.{true, false}
 use lib.ListN.{length}
 use lib.Dec.{leb, ltb}
 use Rattle.parts.specs.Parts.{Bytes, byte, part, nextByte}

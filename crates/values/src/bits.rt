@@ -1,7 +1,7 @@
 // Bitfields: the bytes that the bits touch are read as one number, which then stands at the lowest of them.
 ghost use mathlib.Core.Path.{_≡_};
 ghost use Prim.Native.Nat.{_≤_, _<_};
-ghost use Rattle.values.specs.Values.{widthOf, bitsWidth, bitsAt};
+ghost use Rattle.values.specs.Values.{widthOf, bitsAt};
 ghost use Rattle.values.specs.Steps.{Shifts, ShiftsBy};
 use crate::Read;
 use crate::Words;

@@ -2,7 +2,7 @@
 // bitfields. No reader trusts a length or a place: a message that ends inside a value is Short, and what breaks a value's rule
 // is Bad. All are inner calls: 01's answers are made of them by the decoding above.
 ghost use mathlib.Core.Path.{_≡_};
-ghost use Prim.Native.Nat.{_+_, _-_, _*_, _/_, _%_, _^_, _≤_, _<_};
+ghost use Prim.Native.Nat.{_+_, _-_, _*_, _^_, _≤_, _<_};
 ghost use lib.ListN.{length};
 ghost use lib.Dec.{leb};
 ghost use Rattle.values.specs.Values.{little, unsignedAt, countAt, extended, signedAt, boolAt, charAt, bytesAt, sliceAt, judged, strAt, preformattedAt};

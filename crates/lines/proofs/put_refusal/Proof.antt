@@ -1,5 +1,4 @@
 use mathlib.Core.Path.{ap, refl}
-use mathlib.Core.List.{[], _∷_, _++_}
 use borrow.Author.Needs.{needs}
 use Rattle.put.specs.Put.{spelled}
 use Rattle.put.proofs.Writes.{_then_, put-as}

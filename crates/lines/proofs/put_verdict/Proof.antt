@@ -1,4 +1,4 @@
-use mathlib.Core.Path.{_≡_, refl, ap, sym}
+use mathlib.Core.Path.{refl, ap, sym}
 use borrow.Author.Needs.{needs}
 use Rattle.put.proofs.Writes.{put-nothing, put-as}
 use Rattle.lines.specs.Lines.{verdictLine}

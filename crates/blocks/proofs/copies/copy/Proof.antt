@@ -1,8 +1,8 @@
-use Prim.Native.Nat.{_+_, _-_, _≤_, _<_}
-use mathlib.Core.Path.{_≡_, refl, sym, ap, _∙_}
+use Prim.Native.Nat.{_-_, _≤_, _<_}
+use mathlib.Core.Path.{_≡_, refl, ap, _∙_}
 use native.Mathlib.Numerals.{add-one}
 use native.Mathlib.Omega.{arith}
-use lib.ListN.{length, drop, set, length-set, length-drop}
+use lib.ListN.{length, drop, length-set, length-drop}
 use lib.Seq.{paste, paste-zero, paste-suc, getD-drop}
 use Rattle.blocks.proofs.copies.copy.Statement.{statement}
 use Rattle.blocks.proofs.copies.copy.Tie as tie

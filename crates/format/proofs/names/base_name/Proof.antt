@@ -1,8 +1,8 @@
 use mathlib.Core.Path.{refl, sym, _∙_}
 use mathlib.Core.List.{[], _∷_}
 use borrow.Author.Needs.{needs}
-use Rattle.parts.specs.Parts.{bytes, apart, allApart}
-use Rattle.parts.proofs.Tables.{one-here}
+use Rattle.parts.specs.Parts.{bytes}
+use Rattle.parts.proofs.Tables.{apart, allApart, one-here}
 use Rattle.format.specs.Grammar.{names, bases}
 use Rattle.format.proofs.NameLaws.{no-base}
 use Rattle.format.proofs.names.base_name.Statement.{statement}

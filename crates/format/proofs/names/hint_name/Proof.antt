@@ -1,8 +1,8 @@
 use mathlib.Core.Path.{refl, sym, _∙_}
 use mathlib.Core.List.{[], _∷_}
 use borrow.Author.Needs.{needs}
-use Rattle.parts.specs.Parts.{bytes, apart, allApart}
-use Rattle.parts.proofs.Tables.{one-here, none-here}
+use Rattle.parts.specs.Parts.{bytes}
+use Rattle.parts.proofs.Tables.{apart, allApart, one-here, none-here}
 use Rattle.format.specs.Grammar.{names, hints}
 use Rattle.format.proofs.NameLaws.{no-hint}
 use Rattle.format.proofs.names.hint_name.Statement.{statement}

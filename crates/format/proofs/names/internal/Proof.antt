@@ -1,6 +1,4 @@
-use mathlib.Core.Path.{}
 use borrow.Author.Needs.{needs}
-use Rattle.parts.specs.Parts.{bytes}
 use Rattle.format.specs.Grammar.{names, types}
 use Rattle.format.proofs.NameLaws.{the-one, not-the-one}
 use Rattle.format.proofs.names.internal.Statement.{statement}

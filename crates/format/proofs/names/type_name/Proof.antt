@@ -1,8 +1,8 @@
 use mathlib.Core.Path.{refl, sym, _∙_}
 use mathlib.Core.List.{[], _∷_}
 use borrow.Author.Needs.{needs}
-use Rattle.parts.specs.Parts.{bytes, apart, allApart}
-use Rattle.parts.proofs.Tables.{one-here, from-here}
+use Rattle.parts.specs.Parts.{bytes}
+use Rattle.parts.proofs.Tables.{apart, allApart, one-here, from-here}
 use Rattle.format.specs.Grammar.{names, types}
 use Rattle.format.proofs.NameLaws.{no-letter}
 use Rattle.format.proofs.names.type_name.Statement.{statement}

@@ -2,75 +2,70 @@ use borrow.Author.Needs.{needs}
 use native.Mathlib.Omega.{arith}
 use mathlib.Core.Path.{refl, sym, _∙_}
 use mathlib.Core.List.{[]}
-use lib.ListN.{length, take, drop}
+use lib.ListN.{length, drop}
 use lib.Seq.{length-take-le}
 use Prim.Native.Nat.{ℕ, suc, _+_, _-_, _*_, _<_}
 use borrow.Fn.Kinds.{In}
 use borrow.Fn.PlainCycle.{Measures, is, falls, and}
 use Rattle.rows.proofs.decoding.argument.Reads as argument
 use Rattle.rows.proofs.decoding.argument.Kinds as argument-kinds
-use Rattle.rows.proofs.decoding.+argument+arguments+by_position+element+elements+format+held+in_turn+item+items+sequence+slice+variant.Lts-argument as argument-lts
+use Rattle.rows.proofs.decoding.+argument+arguments+element+elements+format+held+in_turn+item+items+sequence+slice+variant.Lts-argument as argument-lts
 use Rattle.rows.proofs.decoding.arguments.Reads as arguments
 use Rattle.rows.proofs.decoding.arguments.Kinds as arguments-kinds
-use Rattle.rows.proofs.decoding.+argument+arguments+by_position+element+elements+format+held+in_turn+item+items+sequence+slice+variant.Lts-arguments as arguments-lts
-use Rattle.rows.proofs.decoding.by_position.Reads as by-position
-use Rattle.rows.proofs.decoding.by_position.Kinds as by-position-kinds
-use Rattle.rows.proofs.decoding.+argument+arguments+by_position+element+elements+format+held+in_turn+item+items+sequence+slice+variant.Lts-by_position as by-position-lts
+use Rattle.rows.proofs.decoding.+argument+arguments+element+elements+format+held+in_turn+item+items+sequence+slice+variant.Lts-arguments as arguments-lts
 use Rattle.rows.proofs.decoding.element.Reads as element
 use Rattle.rows.proofs.decoding.element.Kinds as element-kinds
-use Rattle.rows.proofs.decoding.+argument+arguments+by_position+element+elements+format+held+in_turn+item+items+sequence+slice+variant.Lts-element as element-lts
+use Rattle.rows.proofs.decoding.+argument+arguments+element+elements+format+held+in_turn+item+items+sequence+slice+variant.Lts-element as element-lts
 use Rattle.rows.proofs.decoding.elements.Reads as elements
 use Rattle.rows.proofs.decoding.elements.Kinds as elements-kinds
-use Rattle.rows.proofs.decoding.+argument+arguments+by_position+element+elements+format+held+in_turn+item+items+sequence+slice+variant.Lts-elements as elements-lts
+use Rattle.rows.proofs.decoding.+argument+arguments+element+elements+format+held+in_turn+item+items+sequence+slice+variant.Lts-elements as elements-lts
 use Rattle.rows.proofs.decoding.format.Reads as format
 use Rattle.rows.proofs.decoding.format.Kinds as format-kinds
-use Rattle.rows.proofs.decoding.+argument+arguments+by_position+element+elements+format+held+in_turn+item+items+sequence+slice+variant.Lts-format as format-lts
+use Rattle.rows.proofs.decoding.+argument+arguments+element+elements+format+held+in_turn+item+items+sequence+slice+variant.Lts-format as format-lts
 use Rattle.rows.proofs.decoding.held.Reads as held
 use Rattle.rows.proofs.decoding.held.Kinds as held-kinds
-use Rattle.rows.proofs.decoding.+argument+arguments+by_position+element+elements+format+held+in_turn+item+items+sequence+slice+variant.Lts-held as held-lts
+use Rattle.rows.proofs.decoding.+argument+arguments+element+elements+format+held+in_turn+item+items+sequence+slice+variant.Lts-held as held-lts
 use Rattle.rows.proofs.decoding.in_turn.Reads as in-turn
 use Rattle.rows.proofs.decoding.in_turn.Kinds as in-turn-kinds
-use Rattle.rows.proofs.decoding.+argument+arguments+by_position+element+elements+format+held+in_turn+item+items+sequence+slice+variant.Lts-in_turn as in-turn-lts
+use Rattle.rows.proofs.decoding.+argument+arguments+element+elements+format+held+in_turn+item+items+sequence+slice+variant.Lts-in_turn as in-turn-lts
 use Rattle.rows.proofs.decoding.item.Reads as item
 use Rattle.rows.proofs.decoding.item.Kinds as item-kinds
-use Rattle.rows.proofs.decoding.+argument+arguments+by_position+element+elements+format+held+in_turn+item+items+sequence+slice+variant.Lts-item as item-lts
+use Rattle.rows.proofs.decoding.+argument+arguments+element+elements+format+held+in_turn+item+items+sequence+slice+variant.Lts-item as item-lts
 use Rattle.rows.proofs.decoding.items.Reads as items
 use Rattle.rows.proofs.decoding.items.Kinds as items-kinds
-use Rattle.rows.proofs.decoding.+argument+arguments+by_position+element+elements+format+held+in_turn+item+items+sequence+slice+variant.Lts-items as items-lts
+use Rattle.rows.proofs.decoding.+argument+arguments+element+elements+format+held+in_turn+item+items+sequence+slice+variant.Lts-items as items-lts
 use Rattle.rows.proofs.decoding.sequence.Reads as sequence
 use Rattle.rows.proofs.decoding.sequence.Kinds as sequence-kinds
-use Rattle.rows.proofs.decoding.+argument+arguments+by_position+element+elements+format+held+in_turn+item+items+sequence+slice+variant.Lts-sequence as sequence-lts
+use Rattle.rows.proofs.decoding.+argument+arguments+element+elements+format+held+in_turn+item+items+sequence+slice+variant.Lts-sequence as sequence-lts
 use Rattle.rows.proofs.decoding.slice.Reads as slice
 use Rattle.rows.proofs.decoding.slice.Kinds as slice-kinds
-use Rattle.rows.proofs.decoding.+argument+arguments+by_position+element+elements+format+held+in_turn+item+items+sequence+slice+variant.Lts-slice as slice-lts
+use Rattle.rows.proofs.decoding.+argument+arguments+element+elements+format+held+in_turn+item+items+sequence+slice+variant.Lts-slice as slice-lts
 use Rattle.rows.proofs.decoding.variant.Reads as variant
 use Rattle.rows.proofs.decoding.variant.Kinds as variant-kinds
-use Rattle.rows.proofs.decoding.+argument+arguments+by_position+element+elements+format+held+in_turn+item+items+sequence+slice+variant.Lts-variant as variant-lts
+use Rattle.rows.proofs.decoding.+argument+arguments+element+elements+format+held+in_turn+item+items+sequence+slice+variant.Lts-variant as variant-lts
 use Rattle.format.proofs.kind_by.Reads as kind-by-reads
 use Rattle.format.proofs.line_up.Reads as line-up-reads
-use Rattle.format.proofs.scan.Reads as scan-reads
 use Rattle.rows.proofs.placing.put_row.Reads as put-row-reads
 use Rattle.rows.proofs.placing.put_value.Reads as put-value-reads
 use Rattle.rows.proofs.reading.entry_at.Reads as entry-at-reads
 use Rattle.rows.proofs.reading.item_at.Reads as item-at-reads
 use Rattle.rows.proofs.reading.sort_at.Reads as sort-at-reads
 use Rattle.rows.proofs.reading.variant_at.Reads as variant-at-reads
-use Rattle.rows.proofs.decoding.+argument+arguments+by_position+element+elements+format+held+in_turn+item+items+sequence+slice+variant.{
+use Rattle.rows.proofs.decoding.+argument+arguments+element+elements+format+held+in_turn+item+items+sequence+slice+variant.{
   statement,
 }
-use Rattle.rows.proofs.decoding.+argument+arguments+by_position+element+elements+format+held+in_turn+item+items+sequence+slice+variant.Tie.{
+use Rattle.rows.proofs.decoding.+argument+arguments+element+elements+format+held+in_turn+item+items+sequence+slice+variant.Tie.{
   close,
 }
 use Rattle.format.specs.Codes.{paramsBy}
-use Rattle.format.proofs.Prepared.{answer-few, answer-sound}
 use Rattle.format.proofs.CodeLaws.{params-length, params-at, params-sound}
 use Rattle.format.proofs.Lining.{lined-up, lined-sounds}
 use Rattle.rows.specs.Decoding.{elementsOf, itemsOf, argumentsOf, textOf}
 use Rattle.rows.specs.Steps.{by}
-use Rattle.rows.proofs.Placed.{wrote-as, went-past, claim-full, over-done, over-refused}
+use Rattle.rows.proofs.Placed.{went-past, claim-full, over-done, over-refused}
 use Rattle.rows.proofs.Bounds.{keeps-textOf}
 use Rattle.rows.proofs.Runs.{Run, run-start, run-length}
-use Rattle.rows.proofs.Nesting.{entry-inside, item-inside, variant-part, variant-done, variant-short, variant-bad, format-full, format-done, format-short, format-bad, element-full, element-done, elements-start, elements-end, elements-again, elements-refused, slice-done, slice-refused, slice-short, slice-bad, argument-as, text-deep, text-any, text-lined, text-bad, text-good, scanned-count, scanned-kind, arguments-end, arguments-again, arguments-refused}
+use Rattle.rows.proofs.Nesting.{entry-inside, item-inside, variant-part, variant-done, variant-short, variant-bad, format-full, format-done, format-short, format-bad, element-full, element-done, elements-start, elements-end, elements-again, elements-refused, slice-done, slice-refused, slice-short, slice-bad, argument-as, text-deep, text-lined, text-bad, arguments-end, arguments-again, arguments-refused}
 use Rattle.rows.proofs.Sequences.{item-short, item-bad, item-closes, item-full, item-done, Listing, listing-start, listing-length, listing-ended, listing-stopped, listing-falls, listing-more, sequence-full, sequence-done, sequence-refused, listed-past}
 
 abbrev μ-argument : Measures 3 argument-kinds.ps ℕ
@@ -78,9 +73,6 @@ abbrev μ-argument : Measures 3 argument-kinds.ps ℕ
 
 abbrev μ-arguments : Measures 4 arguments-kinds.ps ℕ
 μ-arguments κs a = a .1 .1 .1 .1 .1 .0 * 8 + 0
-
-abbrev μ-by-position : Measures 4 by-position-kinds.ps ℕ
-μ-by-position κs a = a .1 .1 .1 .1 .1 .0 * 8 + 7
 
 abbrev μ-element : Measures 4 element-kinds.ps ℕ
 μ-element κs a = a .1 .1 .1 .1 .1 .0 * 8 + 3
@@ -125,12 +117,6 @@ arguments-at t = and 4 arguments-kinds.ps (is 4 arguments-kinds.ps μ-arguments 
 abbrev arguments-below : ℕ → In 4 arguments-kinds.ps
 arguments-below t =
     and 4 arguments-kinds.ps (falls 4 arguments-kinds.ps _<_ μ-arguments t) arguments.Pre
-
-abbrev by-position-at : ℕ → In 4 by-position-kinds.ps
-by-position-at t = and 4 by-position-kinds.ps (is 4 by-position-kinds.ps μ-by-position t) by-position.Pre
-
-abbrev by-position-below : ℕ → In 4 by-position-kinds.ps
-by-position-below t = and 4 by-position-kinds.ps (falls 4 by-position-kinds.ps _<_ μ-by-position t) by-position.Pre
 
 abbrev element-at : ℕ → In 4 element-kinds.ps
 element-at t = and 4 element-kinds.ps (is 4 element-kinds.ps μ-element t) element.Pre
@@ -194,13 +180,6 @@ variant-at t = and 4 variant-kinds.ps (is 4 variant-kinds.ps μ-variant t) varia
 abbrev variant-below : ℕ → In 4 variant-kinds.ps
 variant-below t = and 4 variant-kinds.ps (falls 4 variant-kinds.ps _<_ μ-variant t) variant.Pre
 
-abbrev by-position-Inv-loop : by-position-lts.InvT-loop
-by-position-Inv-loop book message rows₀ cap depth text scanned items stand₀ k₀ rows stand k =
-    Run (argumentsOf (by book message cap) (textOf depth (by book message cap)) (take (scanned .count) items) (stand₀ .row) (stand₀ .at)) (argumentsOf (by book message cap) (textOf depth (by book message cap)) (drop k (take (scanned .count) items))) (stand₀ .row) rows₀ stand rows
-
-abbrev by-position-μ-loop : by-position-lts.MeasureT-loop
-by-position-μ-loop book message rows₀ cap depth text scanned items stand₀ k₀ rows stand k = scanned .count - k
-
 abbrev elements-Inv-loop : elements-lts.InvT-loop
 elements-Inv-loop book message rows₀ cap depth index text n stand₀ k₀ rows stand k =
     Run (elementsOf (by book message cap) (textOf depth (by book message cap)) index text n (stand₀ .row) (stand₀ .at)) (elementsOf (by book message cap) (textOf depth (by book message cap)) index text (n - k)) (stand₀ .row) rows₀ stand rows
@@ -222,13 +201,12 @@ items-Inv-loop book message rows₀ cap depth stand₀ n₀ rows stand n =
 abbrev items-μ-loop : items-lts.MeasureT-loop
 items-μ-loop book message rows₀ cap depth stand₀ n₀ rows stand n = cap - stand .row
 
-pub +argument+arguments+by-position+element+elements+format+held+in-turn+item+items+sequence+slice+variant-spec :
+pub +argument+arguments+element+elements+format+held+in-turn+item+items+sequence+slice+variant-spec :
     {M : Type 1} → statement M
-+argument+arguments+by-position+element+elements+format+held+in-turn+item+items+sequence+slice+variant-spec =
++argument+arguments+element+elements+format+held+in-turn+item+items+sequence+slice+variant-spec =
     close
     μ-argument
     μ-arguments
-    μ-by-position
     μ-element
     μ-elements
     μ-format
@@ -275,8 +253,6 @@ pub +argument+arguments+by-position+element+elements+format+held+in-turn+item+it
       line-up-reads.Learnt,
       in-turn-below t,
       in-turn.Post,
-      by-position-below t,
-      by-position.Post,
     )
     (arguments-at t)
     arguments.Post
@@ -289,37 +265,9 @@ pub +argument+arguments+by-position+element+elements+format+held+in-turn+item+it
     (λ c. sym (length-take-le _ _ (lined-up _ _ _ _ (c .before .before .before .before .before .before .line-up .ensures) (c .before .before .before .n .given .1) .0)))
     (λ c κs. (omega (arith, (c .before .before .before .before .before .before .before .before .before .before .before .before .before .pre .0), (c .before .before .before .before .before .before .before .before .if1 .left)), ((c .before .before .before .before .before .before .before .before .before .before .before .before .before .pre .1 .0), ((c .before .before .before .before .before .before .before .before .before .before .before .before .before .pre .1 .1), lined-sounds _ _ _ _ (c .before .before .before .before .before .before .line-up .ensures) (c .before .before .before .n .given .1)))))
     (λ c. search needs)
-    (λ c. omega (arith, (c .before .before .before .before .before .before .if1 .left)))
-    (λ c κs. (omega (arith, (c .before .before .before .before .before .before .before .before .before .before .before .pre .0), (c .before .before .before .before .before .before .if1 .left)), ((c .before .before .before .before .before .before .before .before .before .before .before .pre .1 .0), (c .before .before .before .before .before .before .before .before .before .before .before .pre .1 .1))))
     (λ c. search needs)
     (λ c. let a = (c .before .before .before .before .before .before .before .before .before .before .before .before .before .before .before .before .args) in let g = by (a .book .now) (a .message .now) (a .cap) in let inner = textOf (a .depth) g in text-lined _ g _ _ _ (c .before .before .before .before .before .before .before .before .before .before .before .if1 .left) _ _ _ _ _ _ (c .before .before .before .before .before .before .before .before .before .line-up .ensures) (c .before .before .before .before .before .before .n .given .1) (c .before .before .in-turn .ensures))
-    (λ c. search needs)
-    (λ c. let a = (c .before .before .before .before .before .before .before .before .before .before .before .before .before .before .args) in let g = by (a .book .now) (a .message .now) (a .cap) in let inner = textOf (a .depth) g in text-any _ g _ _ _ (c .before .before .before .before .before .before .before .before .before .if1 .left) _ _ _ (c .before .before .by-position .ensures)))
-    (λ t. by-position-lts.spec (
-      scan-reads.Asked,
-      scan-reads.Learnt,
-      argument-below t,
-      argument.Post,
-    )
-    (by-position-at t)
-    by-position.Post
-    by-position-Inv-loop
-    by-position-μ-loop
-    (λ c κs. search needs)
-    (λ c. let a = (c .before .before .before .before .before .before .args) in let g = by (a .book .now) (a .message .now) (a .cap) in let inner = textOf (a .depth) g in text-bad _ g _ _ _ _ (c .before .scan .ensures) _ _ (c .if1 .taken))
-    (λ c. run-start _ _ _)
-    (λ c. let f = answer-few _ _ (c .before .before .before .before .before .scan .ensures) (c .before .before .before .before .if1 .left) in record { fits = omega (arith, f) })
-    (λ c. let f = answer-few _ _ (c .before .before .before .before .before .scan .ensures) (c .before .before .before .before .if1 .left) in omega (arith, f))
-    (λ c κs. (search needs, ((c .before .before .before .before .before .before .before .before .before .before .before .before .pre .1 .0), ((let l = run-length _ _ _ _ _ _ (c .before .before .before .before .loop .inv) in omega (arith, l, (c .before .before .before .before .before .before .before .before .before .before .before .before .pre .1 .1))), answer-sound _ _ (c .before .before .before .before .before .before .before .scan .ensures) (c .before .before .before .before .before .before .if1 .left) _ (c .before .before .if2 .taken)))))
-    (λ c. search needs)
-    (λ c. search needs)
-    (λ c. (c .before .before .before .before .before .argument .kept .1 .1 .0) ∙ run-length _ _ _ _ _ _ (c .before .before .before .before .before .before .before .before .before .before .loop .inv))
-    (λ c. let a = (c .before .before .before .before .before .before .before .before .before .before .before .before .before .before .before .before .before .before .args) in let g = by (a .book .now) (a .message .now) (a .cap) in let inner = textOf (a .depth) g in let s = (c .before .before .before .before .before .before .before .before .before .before .before .before .before .scan .result) in wrote-as _ _ _ _ _ _ (text-good _ g _ _ _ _ (c .before .before .before .before .before .before .before .before .before .before .before .before .before .scan .ensures) (c .before .before .before .before .before .before .before .before .before .before .before .before .if1 .left)) (arguments-refused g inner (take (s .count) (s .items)) _ _ _ _ _ _ (c .before .before .before .before .before .before .before .before .before .before .loop .inv) (omega (arith, scanned-count _ _ (c .before .before .before .before .before .before .before .before .before .before .before .before .before .scan .ensures) (c .before .before .before .before .before .before .before .before .before .before .before .before .if1 .left))) _ (scanned-kind _ _ (c .before .before .before .before .before .before .before .before .before .before .before .before .before .scan .ensures) (c .before .before .before .before .before .before .before .before .before .before .before .before .if1 .left) _ (c .before .before .before .before .before .before .before .before .if2 .taken)) _ _ (c .before .before .before .before .before .argument .ensures) _ (c .before .m .given .1)))
-    (λ c. search needs)
-    (λ c. search needs)
-    (λ c. let a = (c .before .before .before .before .before .before .before .before .before .before .before .before .before .before .before .before .before .before .args) in let g = by (a .book .now) (a .message .now) (a .cap) in let inner = textOf (a .depth) g in let s = (c .before .before .before .before .before .before .before .before .before .before .before .before .before .scan .result) in arguments-again g inner (take (s .count) (s .items)) _ _ _ _ _ _ (c .before .before .before .before .before .before .before .before .before .before .loop .inv) (omega (arith, scanned-count _ _ (c .before .before .before .before .before .before .before .before .before .before .before .before .before .scan .ensures) (c .before .before .before .before .before .before .before .before .before .before .before .before .if1 .left))) _ (scanned-kind _ _ (c .before .before .before .before .before .before .before .before .before .before .before .before .before .scan .ensures) (c .before .before .before .before .before .before .before .before .before .before .before .before .if1 .left) _ (c .before .before .before .before .before .before .before .before .if2 .taken)) _ _ (c .before .before .before .before .before .argument .ensures) _ (c .before .e .given .1))
-    (λ c. run-length _ _ _ _ _ _ (c .before .before .loop .inv))
-    (λ c. let a = (c .before .before .before .before .before .before .before .before .before .before .args) in let g = by (a .book .now) (a .message .now) (a .cap) in let inner = textOf (a .depth) g in let s = (c .before .before .before .before .before .scan .result) in wrote-as _ _ _ _ _ _ (text-good _ g _ _ _ _ (c .before .before .before .before .before .scan .ensures) (c .before .before .before .before .if1 .left)) (arguments-end g inner (take (s .count) (s .items)) _ _ _ _ _ (c .before .before .loop .k) (c .before .before .loop .inv) (omega (arith, scanned-count _ _ (c .before .before .before .before .before .scan .ensures) (c .before .before .before .before .if1 .left), (c .if2 .left))))))
+    (λ c. let a = (c .before .before .before .before .before .before .before .before .before .before .args) in let g = by (a .book .now) (a .message .now) (a .cap) in text-bad _ g _ _ _ (c .before .before .before .before .before .if1 .left) _ _ _ _ _ (c .before .before .before .line-up .ensures) (c .enum-told .given .1) refl))
     (λ t. element-lts.spec
     (variant-below t, variant.Post)
     (element-at t)
