@@ -13,7 +13,7 @@ use Rattle.format.specs.declared.hints.Hint.{Hint}
 use Rattle.put.specs.Put.{Bytes, Put}
 use Rattle.text.specs.Prints.{Text, unprintable, Prints}
 use Rattle.text.specs.Hints.{sortOf, orElse}
-use Rattle.text.specs.Leaves.{valueOf, seenAs, named, interned, stringUnder, textOf, leafOf, badOf, leafBad, blankOf, leafBlank}
+use Rattle.text.specs.Leaves.{valueOf, seenAs, named, interned, stringUnder, textOf, leafOf, badOf, plainOf, leafPlain, leafBad, blankOf, leafBlank}
 use Rattle.text.specs.declared.hints.Sort.{Sort}
 use Rattle.text.specs.declared.hints.Sort.the-variants as sort
 use Rattle.text.specs.declared.numbers.Seen.{Seen}
@@ -74,6 +74,31 @@ pub leaf-judged : (m b : Bytes) (seen : Kind) (own parent : Hint) (k x y : ℕ) 
 unfolding leafOf leafBad
 leaf-judged m b seen own parent k x y = value-bad (valueOf k) m b (seenAs seen) own parent x y
 
+never : {A : Type 0} → false ≡ true → A
+never e = absurd (let z : _≡_ {A = ℕ} 0 1 = cc in omega arith)
+
+-- ---- values with a text under every hint
+
+pub plain-as : (k : ℕ) {v : Value} → valueOf k ≡ v → plainOf v ≡ leafPlain k
+unfolding leafPlain
+plain-as k e = sym (ap plainOf e)
+
+value-plain : (v : Value) (s : Sort) → plainOf v ≡ true → badOf v s ≡ false
+unfolding plainOf badOf
+value-plain value.Nothing s e = refl
+value-plain value.Truth s e = refl
+value-plain value.Unsigned s e = refl
+value-plain value.Signed s e = refl
+value-plain value.Float s e = never e
+value-plain value.Str s e = never e
+value-plain value.Istr s e = never e
+value-plain value.Bytes s e = refl
+value-plain value.Scalar s e = refl
+
+pub leaf-never : (k : ℕ) (s : Sort) → leafPlain k ≡ true → leafBad k s ≡ false
+unfolding leafPlain leafBad
+leaf-never k s e = value-plain (valueOf k) s e
+
 -- ---- empty texts
 
 pub blank-as : (m b : Bytes) (k x y : ℕ) {v : Value} → valueOf k ≡ v → blankOf v m b x y ≡ leafBlank m b k x y
@@ -89,9 +114,6 @@ unfolding stringUnder
 under-blank sort.Quoted e f = sym (some-is f) ∙ e
 under-blank sort.Debugged e f = none-some f
 under-blank sort.Other e f = sym (some-is f) ∙ e
-
-never : {A : Type 0} → false ≡ true → A
-never e = absurd (let z : _≡_ {A = ℕ} 0 1 = cc in omega arith)
 
 value-blank : (v : Value) (m b : Bytes) (seen : Seen) (own parent : Hint) (x y : ℕ) {u : Bytes} → blankOf v m b x y ≡ true → textOf v m b seen own parent x y ≡ some u → u ≡ []
 unfolding textOf blankOf

@@ -26,7 +26,7 @@ use Rattle.text.specs.Hints.{sortOf, orElse, innerHint}
 use Rattle.text.specs.Leaves.{interned, leafOf}
 use Rattle.text.specs.Walk.{countOf, wordOf, nextOf, childOf, classOf}
 use Rattle.text.specs.Text.{Inner, before, join, isItem, chosen, inForce, fragmentsOf, formatFrom, formatOf, eachOf, bytesOf, quotedOf, plainOf, isQuoted, someByte, listOf, laterOf, textOf}
-use Rattle.text.specs.Marks.{told, Judges, Adds, unpacked, side, Known, sidesAt, Ready, Leafy, SetMarks, never, Fine, Stands, SameSides}
+use Rattle.text.specs.Marks.{told, Judges, Adds, unpacked, side, Known, sidesAt, Ready, Leafy, SetMarks, plain, never, isPlain, seemsBy, seemsPlain, Fine, Stands, SameSides}
 use Rattle.text.specs.declared.hints.Sort.{Sort}
 use Rattle.text.specs.declared.hints.Sort.the-variants as sort
 use Rattle.text.specs.declared.walk.Class.{Class}
@@ -34,11 +34,19 @@ use Rattle.text.specs.declared.walk.Class.the-variants as class
 use Rattle.text.specs.declared.judging.Judged.{Judged}
 use Rattle.text.specs.declared.judging.Sides.{Sides}
 use Rattle.text.proofs.Joins.{un-before, un-join, un-some}
-use Rattle.text.proofs.LeafLaws.{leaf-judged, leaf-empty}
+use Rattle.text.proofs.LeafLaws.{leaf-judged, leaf-never, leaf-empty}
 use Rattle.text.proofs.Later.{later-is, text-past, text-leaf, text-format, text-list, text-sequence}
 use Rattle.text.proofs.Cases.{between-nothing, each-more, both-true}
 use Rattle.text.proofs.Walks.{next-in}
 use Rattle.text.proofs.PlaceLaws.{shownSide, shown-side, side-apart, side-item, side-same}
+
+pub plain-is : (j : Judged) (a r : Bool) → a ≡ never j → r ≡ (a && not (j .blank)) → r ≡ isPlain j
+plain-is j a r ea er = er ∙ ap (λ (x : Bool). x && not (j .blank)) ea
+
+pub seems-as : (rows : List ℕ) (row : ℕ) (b : Bool) (w v : ℕ) (k l : Class) (r : Bool) → w ≡ wordOf rows row 0 → v ≡ wordOf rows row 3 → k ≡ classOf w → k ≡ l
+    → r ≡ seemsBy l w b v → r ≡ seemsPlain rows row b
+seems-as rows row b w v k l r ew ev ek el er =
+    er ∙ ap (λ (z : Class). seemsBy z w b v) (sym el ∙ ek) ∙ ap₂ (λ (x y : ℕ). seemsBy (classOf x) x b y) ew ev
 
 -- ---- from which row on
 
@@ -55,6 +63,11 @@ pub judges-as : {j : Judged} {x : Hint → Text} (y : Hint → Text) → ((h : H
 judges-as {j} y e w = record { bad = λ h. w .bad h ∙ ap unprintable (sym (e h)); blank = λ b h u g. w .blank b h u (sym (e h) ∙ g) }
 
 -- ---- rows by class
+
+told-plain : (s : Sort) → told plain s ≡ false
+told-plain sort.Other = refl
+told-plain sort.Quoted = refl
+told-plain sort.Debugged = refl
 
 side-alike : (j : Judged) (b : Bool) → side (record { apart = j; item = j }) b ≡ j
 side-alike j true = refl
@@ -280,20 +293,26 @@ module _ (book message rows : List ℕ) where
   pub fine-none : (b : Bool) → Fine book message rows (countOf rows) b
   fine-none b = record { is = λ e row seen own parent h. past-fine row seen own parent h }
 
-  pub fine-more : (row : ℕ) (s : Sides) (b p q x y : Bool) → row < countOf rows → Fine book message rows (row + 1) b → Known book message rows row s
-      → x ≡ never (s .apart) → y ≡ never (s .item) → q ≡ (x && y) → p ≡ (b && q) → Fine book message rows row p
-  fine-more row s b p q x y l w k ex ey eq ep = record { is = λ e i seen own parent h. go (both-true b q (sym ep ∙ e)) i seen own parent h (ℕ-discrete i row) }
-    where
-      one : (q ≡ true) → (c : Bool) → never (side s c) ≡ true
-      one e true = sym ey ∙ both-true x y (sym eq ∙ e) .1
-      one e false = sym ex ∙ both-true x y (sym eq ∙ e) .0
+  module _ (row : ℕ) (s : Sides) (b : Bool) (w : Fine book message rows (row + 1) b) (k : Known book message rows row s) where
+    fine-by : (p : Bool) → (p ≡ true → (b ≡ true) × ((c : Bool) → never (side s c) ≡ true)) → Fine book message rows row p
+    fine-by p f = record { is = λ e i seen own parent h. go (f e) i seen own parent h (ℕ-discrete i row) }
+      where
+        go : (b ≡ true) × ((c : Bool) → never (side s c) ≡ true) → (i : ℕ) (seen : Kind) (own parent : Hint) → row ≤ i → Dec (i ≡ row) → unprintable (textOf book message rows i seen own parent) ≡ false
+        go e i seen own parent h (yes g) =
+            ap (λ (z : ℕ). unprintable (textOf book message rows z seen own parent)) g
+            ∙ sym (k .bad seen own parent)
+            ∙ never-told (side s (isItem seen)) (sortOf (inForce (classOf (wordOf rows row 0)) own parent)) (e .1 (isItem seen))
+        go e i seen own parent h (no g) = w .is (e .0) i seen own parent (omega arith)
 
-      go : (b ≡ true) × (q ≡ true) → (i : ℕ) (seen : Kind) (own parent : Hint) → row ≤ i → Dec (i ≡ row) → unprintable (textOf book message rows i seen own parent) ≡ false
-      go e i seen own parent h (yes g) =
-          ap (λ (z : ℕ). unprintable (textOf book message rows z seen own parent)) g
-          ∙ sym (k .bad seen own parent)
-          ∙ never-told (side s (isItem seen)) (sortOf (inForce (classOf (wordOf rows row 0)) own parent)) (one (e .1) (isItem seen))
-      go e i seen own parent h (no g) = w .is (e .0) i seen own parent (omega arith)
+    pub fine-more : (p q x y : Bool) → x ≡ isPlain (s .apart) → y ≡ isPlain (s .item) → q ≡ (x && y) → p ≡ (b && q) → Fine book message rows row p
+    fine-more p q x y ex ey eq ep = fine-by p (λ e. let f = both-true b q (sym ep ∙ e) in (f .0, one (f .1)))
+      where
+        one : q ≡ true → (c : Bool) → never (side s c) ≡ true
+        one e true = both-true (never (s .item)) (not (s .item .blank)) (sym ey ∙ both-true x y (sym eq ∙ e) .1) .0
+        one e false = both-true (never (s .apart)) (not (s .apart .blank)) (sym ex ∙ both-true x y (sym eq ∙ e) .0) .0
+
+    pub fine-too : s ≡ record { apart = plain; item = plain } → Fine book message rows row b
+    fine-too e = fine-by b (λ f. (f, λ c. ap (λ (z : Sides). never (side z c)) e ∙ ap never (side-alike plain c)))
 
   pub fine-on : (from to : ℕ) (b : Bool) → from ≤ to → Fine book message rows from b → Fine book message rows to b
   fine-on from to b h w = record { is = λ e row seen own parent l. w .is e row seen own parent (omega arith) }
@@ -304,7 +323,7 @@ module _ (book message rows : List ℕ) where
   child-in (suc p) first h = let n = next-in rows first h in let c = child-in p (nextOf rows first) (n .1) in omega arith
 
   -- where no row can be NOPRINT, no text over them is
-  pub fine-format : (first : ℕ) (b : Bool) (h : Hint) (t : Bytes) → first ≤ countOf rows → Fine book message rows 0 b → b ≡ true
+  pub fine-format : (first : ℕ) (b : Bool) (h : Hint) (t : Bytes) → first ≤ countOf rows → Fine book message rows first b → b ≡ true
       → unprintable (formatOf (laterOf book message rows first) rows first h t) ≡ false
   unfolding formatFrom fragmentsOf unprintable
   fine-format first b h t l w e = walk (suc (length t)) 0 0
@@ -317,9 +336,54 @@ module _ (book message rows : List ℕ) where
       by n at counter (Literal x y z) g go = rw (g, fragmentsOf) (un-before _ _ ∙ go z counter)
       by n at counter (Parameter p own counted z) g go = rw (g, fragmentsOf)
           (un-join _ _ ∙ ap₂ _||_
-          (ap unprintable (later-is book message rows (childOf rows (p .position) first) (p .kind) own h first l (child-in (p .position) first l)) ∙ w .is e (childOf rows (p .position) first) (p .kind) own h (omega arith))
+          (ap unprintable (later-is book message rows (childOf rows (p .position) first) (p .kind) own h first l (child-in (p .position) first l)) ∙ w .is e (childOf rows (p .position) first) (p .kind) own h (child-in (p .position) first l))
           (go z (counterAfter counted counter)))
 
       walk : (n at counter : ℕ) → unprintable (fragmentsOf n (laterOf book message rows first) rows first h t at counter) ≡ false
       walk zero at counter = refl
       walk (suc n) at counter = by n at counter (nextAt t at counter) refl (walk n)
+
+  -- nor any rows side by side
+  pub fine-each : (first : ℕ) (b : Bool) (seen : Kind) (h : Hint) (n : ℕ) → first ≤ countOf rows → Fine book message rows first b → b ≡ true
+      → unprintable (eachOf (laterOf book message rows first) rows seen false h n first) ≡ false
+  unfolding eachOf unprintable
+  fine-each first b seen h n l w e = go n first (omega arith) l
+    where
+      go : (n row : ℕ) → first ≤ row → row ≤ countOf rows → unprintable (eachOf (laterOf book message rows first) rows seen false h n row) ≡ false
+      go zero row f m = refl
+      go (suc n) row f m =
+          let k = next-in rows row m in
+          un-join _ _ ∙ ap₂ _||_
+          (ap unprintable (later-is book message rows row seen hint.Plain h first l f) ∙ w .is e row seen hint.Plain h f)
+          (un-before _ _ ∙ go n (nextOf rows row) (omega (arith, k .0)) (k .1))
+
+  plain-judges : (t : Hint → Text) → ((h : Hint) → unprintable (t h) ≡ false) → Judges t plain
+  plain-judges t f = record { bad = λ h. told-plain (sortOf h) ∙ sym (f h); blank = λ b h u g. absurd (let z : _≡_ {A = ℕ} 0 1 = cc in omega arith) }
+
+  pub judged-plain : (first : ℕ) (b : Bool) (seen : Kind) (n : ℕ) (j : Judged) → first ≤ countOf rows → Fine book message rows first b → b ≡ true → j ≡ plain
+      → Judges (λ h. eachOf (laterOf book message rows first) rows seen false h n first) j
+  judged-plain first b seen n j l w e is =
+      subst (Judges (λ h. eachOf (laterOf book message rows first) rows seen false h n first)) (sym is)
+      (plain-judges _ (λ h. fine-each first b seen h n l w e))
+
+  -- a row that seems to be plain is
+  module _ (row : ℕ) (inside : row < countOf rows) (b : Bool) (w : Fine book message rows (row + 1) b) where
+    seems : (k : Class) → k ≡ classOf (wordOf rows row 0) → seemsBy k (wordOf rows row 0) b (wordOf rows row 3) ≡ true
+        → Known book message rows row (record { apart = plain; item = plain })
+    seems class.Leaf e f =
+        known-leaf book message rows row inside class.Leaf e _ _ _ plain _ refl refl refl refl refl
+        (record { bad = λ s. told-plain s ∙ sym (leaf-never (wordOf rows row 0) s f); blank = λ g. absurd (let z : _≡_ {A = ℕ} 0 1 = cc in omega arith) })
+    seems class.Format e f =
+        known-format book message rows row inside class.Format e _ refl
+        (λ c. subst (Judges (λ h. formatOf (laterOf book message rows (row + 1)) rows (row + 1) h (shownSide book rows row c))) (sym (side-alike plain c))
+        (plain-judges _ (λ h. fine-format (row + 1) b h (shownSide book rows row c) (omega (arith, inside)) w (both-true b _ f .0))))
+    seems class.List e f = absurd (let z : _≡_ {A = ℕ} 0 1 = cc in omega arith)
+    seems class.Sequence e f =
+        known-sequence book message rows row inside class.Sequence e _ plain _ refl refl refl
+        (plain-judges _ (λ h. fine-each (row + 1) b kind.Sequence h (wordOf rows row 1) (omega (arith, inside)) w (both-true b _ f .0)))
+
+    pub known-plain : (r : Bool) (s : Sides) (j : Judged) → r ≡ seemsPlain rows row b → r ≡ true → j ≡ plain → s ≡ record { apart = j; item = j }
+        → Known book message rows row s × (s ≡ record { apart = plain; item = plain })
+    known-plain r s j er e ej es =
+        let f : s ≡ record { apart = plain; item = plain } = es ∙ ap (λ (z : Judged). record { apart = z; item = z }) ej in
+        (subst (Known book message rows row) (sym f) (seems _ refl (sym er ∙ e)), f)

@@ -6,7 +6,6 @@ use mathlib.Core.List.{List, [], _++_}
 use mathlib.Core.Option.{none, some}
 use native.Mathlib.Omega.{arith}
 use lib.ListN.{length, take, drop}
-use lib.Dec.{leb}
 use borrow.Author.Tests.{le-leb, lt-leb}
 use Rattle.answer.specs.Answer.{zeros, after}
 use Rattle.answer.specs.declared.Refusal.the-variants as refusal

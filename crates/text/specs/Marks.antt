@@ -6,7 +6,7 @@ use mathlib.Core.Bool.{Bool, true, false, not, _&&_, _||_}
 use mathlib.Core.List.{List, []}
 use mathlib.Core.Option.{some}
 use lib.ListN.{length, getD}
-use lib.Dec.{eqb}
+use lib.Dec.{ltb, eqb}
 use Rattle.answer.specs.declared.Verdict.the-variants.{Ok}
 use Rattle.parts.specs.Parts.{part}
 use Rattle.book.specs.Book.{checked}
@@ -17,7 +17,7 @@ use Rattle.format.specs.declared.hints.Hint.{Hint}
 use Rattle.format.specs.declared.hints.Hint.the-variants as hint
 use Rattle.text.specs.Prints.{Text, unprintable}
 use Rattle.text.specs.Hints.{sortOf}
-use Rattle.text.specs.Leaves.{interned, leafBad, leafBlank}
+use Rattle.text.specs.Leaves.{interned, leafBad, leafPlain, leafBlank}
 use Rattle.text.specs.Walk.{countOf, wordOf, classOf}
 use Rattle.text.specs.Text.{isItem, join, inForce, textOf}
 use Rattle.text.specs.declared.hints.Sort.{Sort}
@@ -87,6 +87,10 @@ pub record Adds (j : Judged) (x : Hint → Text) (r : Judged) : Type 0 where
 abbrev pub empty : Judged
 empty = record { other = false; quoted = false; debugged = false; blank = true }
 
+-- a text that is NOPRINT under no hint, and not known to be empty
+abbrev pub plain : Judged
+plain = record { other = false; quoted = false; debugged = false; blank = false }
+
 -- j with a text more, whose mark is m, shown under an own hint
 abbrev pub withMark : Judged → Judged → Class → Hint → Judged
 withMark j m class own = record {
@@ -152,6 +156,20 @@ pub record SetMarks (old : Bytes) (row : ℕ) (s : Sides) (new : Bytes) : Type 0
 
 abbrev pub never : Judged → Bool
 never j = not (j .other) && not (j .quoted) && not (j .debugged)
+
+-- is that all that is judged of a text?
+abbrev pub isPlain : Judged → Bool
+isPlain j = never j && not (j .blank)
+
+-- a row that has a text of its own under every hint, or shows rows that all have
+abbrev pub seemsBy : Class → ℕ → Bool → ℕ → Bool
+seemsBy class.Leaf kind behind below = leafPlain kind
+seemsBy class.Format kind behind below = behind && ltb 0 below
+seemsBy class.List kind behind below = false
+seemsBy class.Sequence kind behind below = behind && ltb 0 below
+
+abbrev pub seemsPlain : List ℕ → ℕ → Bool → Bool
+seemsPlain rows row behind = seemsBy (classOf (wordOf rows row 0)) (wordOf rows row 0) behind (wordOf rows row 3)
 
 -- no text of a row from here on is NOPRINT
 pub record Fine (book message rows : List ℕ) (from : ℕ) (b : Bool) : Type 0 where

@@ -2,6 +2,7 @@
 use crate::hints::Sort;
 use crate::leaves::leaf_bad;
 use crate::leaves::leaf_blank;
+use crate::leaves::leaf_plain;
 use crate::places::Looked;
 use crate::places::look;
 use crate::places::look_at;
@@ -27,10 +28,11 @@ ghost use lib.ListN.{length};
 ghost use Rattle.answer.specs.declared.Verdict.the-variants.{Ok};
 ghost use Rattle.book.specs.Book.{checked};
 ghost use Rattle.format.specs.Grammar.{counterAfter};
+ghost use Rattle.format.specs.declared.types.Kind.the-variants as kind;
 ghost use Rattle.text.specs.Prints.{unprintable};
 ghost use Rattle.text.specs.Walk.{countOf, wordOf, childOf, classOf};
 ghost use Rattle.text.specs.Text.{isItem, formatFrom, formatOf, eachOf, byteOf, bytesOf, listOf, laterOf, textOf};
-ghost use Rattle.text.specs.Marks.{Holds, told, sortElse, sortInner, sortIn, Judges, Adds, empty, bitOf, unpacked, side, sidesAt, withMark, Known, Ready, Steps, Leafy, SetMarks, SameSides, never, Fine};
+ghost use Rattle.text.specs.Marks.{Holds, told, sortElse, sortInner, sortIn, Judges, Adds, empty, bitOf, unpacked, side, sidesAt, plain, withMark, Known, Ready, Steps, Leafy, SetMarks, SameSides, never, isPlain, seemsPlain, Fine};
 
 // Under which sorts of hint a text is NOPRINT, and whether it is known to be empty where it is not.
 pub struct Judged {
@@ -84,6 +86,18 @@ fn not_blank(j: Judged) -> Judged
         other: j.other,
         quoted: j.quoted,
         debugged: j.debugged,
+        blank: false,
+    }
+}
+
+// A text that is NOPRINT under no hint, and not known to be empty.
+fn always_shown() -> Judged
+    ensures { λ r. ⌜ r ≡ plain ⌝ }
+{
+    Judged {
+        other: false,
+        quoted: false,
+        debugged: false,
         blank: false,
     }
 }
@@ -365,6 +379,25 @@ fn judge_leaf(message: &[u8], book: &[u8], kind: u64, a: u64, b: u64) -> Judged
     }
 }
 
+// The elements of a list, which are not walked where all rows from the first on are plain.
+fn judge_elements(
+    book: &[u8],
+    message: &[u8],
+    rows: &[u64],
+    marks: &[u8],
+    first: usize,
+    n: u64,
+    plain: bool,
+) -> Judged
+    requires { ⌜ Ready (now book) (now message) (now rows) (now marks) first × (first ≤ countOf (now rows)) × Fine (now book) (now message) (now rows) first plain ⌝ }
+    ensures { λ r. ⌜ Judges (λ h. eachOf (laterOf (now (book .entry)) (now (message .entry)) (now (rows .entry)) first) (now (rows .entry)) kind.Format false h n first) r ⌝ }
+{
+    if plain {
+        return always_shown();
+    }
+    judge_each(book, message, rows, marks, first, Kind::Format, n)
+}
+
 // A list is never blank, for its brackets; with `a` it may be a byte string.
 fn judge_list(
     book: &[u8],
@@ -373,11 +406,12 @@ fn judge_list(
     marks: &[u8],
     first: usize,
     n: u64,
+    plain: bool,
 ) -> Judged
-    requires { ⌜ Ready (now book) (now message) (now rows) (now marks) first × (first ≤ countOf (now rows)) ⌝ }
+    requires { ⌜ Ready (now book) (now message) (now rows) (now marks) first × (first ≤ countOf (now rows)) × Fine (now book) (now message) (now rows) first plain ⌝ }
     ensures { λ r. ⌜ Judges (λ h. listOf (laterOf (now (book .entry)) (now (message .entry)) (now (rows .entry)) first) (now (book .entry)) (now (rows .entry)) h n first) r ⌝ }
 {
-    let j = judge_each(book, message, rows, marks, first, Kind::Format, n);
+    let j = judge_elements(book, message, rows, marks, first, n, plain);
     let mut quoted = j.quoted;
     if some_byte(book, rows, n, first) {
         quoted = bad_bytes(rows, n, first);
@@ -447,8 +481,9 @@ fn judge_row(
     marks: &[u8],
     row: usize,
     last: Looked,
+    plain: bool,
 ) -> Sides
-    requires { ⌜ Ready (now book) (now message) (now rows) (now marks) (row + 1) × (row < countOf (now rows)) × Holds (now book) last ⌝ }
+    requires { ⌜ Ready (now book) (now message) (now rows) (now marks) (row + 1) × (row < countOf (now rows)) × Holds (now book) last × Fine (now book) (now message) (now rows) (row + 1) plain ⌝ }
     ensures { λ r. ⌜ Known (now (book .entry)) (now (message .entry)) (now (rows .entry)) row r ⌝ }
 {
     let kind = word(rows, row, 0);
@@ -457,7 +492,7 @@ fn judge_row(
     match class_of(kind) {
         Class::Leaf => alike(judge_leaf(message, book, kind, a, b)),
         Class::Format => judge_text(book, message, rows, marks, row, last),
-        Class::List => alike(judge_list(book, message, rows, marks, row + 1, b)),
+        Class::List => alike(judge_list(book, message, rows, marks, row + 1, b, plain)),
         Class::Sequence => alike(judge_each(
             book,
             message,
@@ -502,6 +537,27 @@ fn never_bad(j: Judged) -> bool
     !j.debugged
 }
 
+// Is a text neither NOPRINT under some hint nor known to be empty?
+fn is_plain(j: Judged) -> bool
+    ensures { λ r. ⌜ r ≡ isPlain j ⌝ }
+{
+    both(never_bad(j), !j.blank)
+}
+
+// Is a row seen to be plain with no look at its text, where all rows behind it are or are not? One that shows others is, unless it has no row
+// below it, and may be empty.
+fn seems_plain(rows: &[u64], row: usize, plain: bool) -> bool
+    ensures { λ r. ⌜ r ≡ seemsPlain (now (rows .entry)) row plain ⌝ }
+{
+    let kind = word(rows, row, 0);
+    match class_of(kind) {
+        Class::Leaf => leaf_plain(kind),
+        Class::Format => both(plain, 0 < word(rows, row, 3)),
+        Class::List => false,
+        Class::Sequence => both(plain, 0 < word(rows, row, 3)),
+    }
+}
+
 // The last lookup after a row, which makes one if it shows a text.
 fn look_row(book: &[u8], rows: &[u64], last: Looked, row: usize) -> Looked
     requires { ⌜ (checked (now book) ≡ Ok) × Holds (now book) last ⌝ }
@@ -515,20 +571,24 @@ fn look_row(book: &[u8], rows: &[u64], last: Looked, row: usize) -> Looked
     }
 }
 
-// Inner: marks each row, the last first. Whether no row can be NOPRINT under any hint.
+// Inner: marks each row, the last first. Whether all are plain: no row can be NOPRINT under any hint, or is known to be empty.
 pub fn mark(book: &[u8], message: &[u8], rows: &[u64], marks: &mut [u8]) -> bool
     requires { ⌜ (checked (now book) ≡ Ok) × (countOf (now rows) * 2 ≤ length (now marks)) ⌝ }
     ensures { λ r. ⌜ Ready (now (book .entry)) (now (message .entry)) (now (rows .entry)) (now (marks .exit)) 0 × Fine (now (book .entry)) (now (message .entry)) (now (rows .entry)) 0 r ⌝ }
 {
-    let mut fine = true;
+    let mut plain = true;
     let mut last = Looked::No;
     let mut row = rows.len() / WIDTH;
     while 0 < row {
         row -= 1;
-        last = look_row(book, rows, last, row);
-        let s = judge_row(book, message, rows, marks, row, last);
-        set_marks(marks, row, s);
-        fine = both(fine, both(never_bad(s.apart), never_bad(s.item)));
+        if seems_plain(rows, row, plain) {
+            set_marks(marks, row, alike(always_shown()));
+        } else {
+            last = look_row(book, rows, last, row);
+            let s = judge_row(book, message, rows, marks, row, last, plain);
+            set_marks(marks, row, s);
+            plain = both(plain, both(is_plain(s.apart), is_plain(s.item)));
+        }
     }
-    fine
+    plain
 }

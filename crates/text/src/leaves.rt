@@ -20,7 +20,7 @@ ghost use Rattle.book.specs.Book.{checked};
 ghost use Rattle.put.specs.Put.{Put};
 ghost use Rattle.utf8.specs.Utf8.{utf8};
 ghost use Rattle.text.specs.Prints.{Prints, unprintable};
-ghost use Rattle.text.specs.Leaves.{valueOf, bytesBy, named, interned, stringUnder, truth, leafOf, leafBad, leafBlank};
+ghost use Rattle.text.specs.Leaves.{valueOf, bytesBy, named, interned, stringUnder, truth, leafOf, leafBad, leafPlain, leafBlank};
 
 // What a row's kind says that it holds.
 pub enum Value {
@@ -164,6 +164,23 @@ fn is_debug(sort: Sort) -> bool
         Sort::Quoted => false,
         Sort::Debugged => true,
         Sort::Other => false,
+    }
+}
+
+// Inner: whether such a row has a text of at least one byte under every hint.
+pub fn leaf_plain(kind: u64) -> bool
+    ensures { λ r. ⌜ r ≡ leafPlain kind ⌝ }
+{
+    match value_of(kind) {
+        Value::Nothing => false,
+        Value::Truth => true,
+        Value::Unsigned => true,
+        Value::Signed => true,
+        Value::Float => false,
+        Value::Str => false,
+        Value::Istr => false,
+        Value::Bytes => true,
+        Value::Scalar => true,
     }
 }
 

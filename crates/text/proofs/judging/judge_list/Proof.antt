@@ -10,5 +10,5 @@ judge-list-spec =
     (λ c κs. search needs)
     (λ c κs. (c .before .before .before .before .before .pre .0 .checks))
     (λ c κs. search needs)
-    (λ c. list-quoted-judged _ _ _ _ _ _ (c .before .before .before .judge-each .ensures) _ (c .before .before .some-byte .ensures) _ (c .before .if1 .taken) (c .bad-bytes .ensures))
-    (λ c. list-plain-judged _ _ _ _ _ _ (c .before .before .judge-each .ensures) _ (c .before .some-byte .ensures) (c .if1 .left)))
+    (λ c. list-quoted-judged _ _ _ _ _ _ (c .before .before .before .judge-elements .ensures) _ (c .before .before .some-byte .ensures) _ (c .before .if1 .taken) (c .bad-bytes .ensures))
+    (λ c. list-plain-judged _ _ _ _ _ _ (c .before .before .judge-elements .ensures) _ (c .before .some-byte .ensures) (c .if1 .left)))

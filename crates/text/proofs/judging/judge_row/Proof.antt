@@ -21,7 +21,7 @@ judge-row-spec =
     (λ c κs. ((c .before .before .before .before .before .before .before .before .before .before .pre .0), (c .before .before .before .before .before .before .before .before .before .before .pre .1), sym ((c .before .before .class-of .ensures) ∙ ap classOf (c .before .before .before .before .before .word .ensures)) ∙ (c .enum-told2 .given .1), (c .before .before .before .before .before .before .before .before .before .before .pre .2)))
     (λ c. search needs)
     (λ c. omega (arith, (c .before .before .before .before .before .before .before .before .before .before .pre .1)))
-    (λ c κs. ((c .before .before .before .before .before .before .before .before .before .before .pre .0), omega (arith, (c .before .before .before .before .before .before .before .before .before .before .pre .1))))
+    (λ c κs. ((c .before .before .before .before .before .before .before .before .before .before .pre .0), omega (arith, (c .before .before .before .before .before .before .before .before .before .before .pre .1)), (c .before .before .before .before .before .before .before .before .before .before .pre .3)))
     (λ c κs. search needs)
     (λ c. search needs)
     (λ c. omega (arith, (c .before .before .before .before .before .before .before .before .before .before .pre .1)))
