@@ -71,6 +71,24 @@ keep-few (x ∷ xs) =
     let h = keep-few xs in
     elim (ℕ-discrete x 0) [ yes e ↦ omega (arith, ap length (keep-zero x xs e)) | no e ↦ omega (arith, ap length (keep-byte x xs e)) ]
 
+pub keep-free : (xs : Bytes) → hasZero xs ≡ false → length (keep xs) ≡ length xs
+unfolding keep
+keep-free [] p = refl
+keep-free (x ∷ xs) p =
+    elim (ℕ-discrete x 0) [
+      | yes e ↦ absurd (let z : _≡_ {A = ℕ} 0 1 = cc (zero-first x xs e) in let w : ⊥ = omega arith in w)
+      | no e ↦ ap length (keep-byte x xs e) ∙ ap suc (keep-free xs (sym (zero-later x xs e) ∙ p))
+    ]
+
+pub keep-fewer : (xs : Bytes) → hasZero xs ≡ true → length (keep xs) < length xs
+unfolding hasZero
+keep-fewer [] p = absurd (let z : _≡_ {A = ℕ} 0 1 = cc in let w : ⊥ = omega arith in w)
+keep-fewer (x ∷ xs) p =
+    elim (ℕ-discrete x 0) [
+      | yes e ↦ omega (arith, ap length (keep-zero x xs e), keep-few xs)
+      | no e ↦ omega (arith, ap length (keep-byte x xs e), keep-fewer xs (sym (zero-later x xs e) ∙ p))
+    ]
+
 twice : (w n : ℕ) → w * 2 * 2 ^ n ≡ w * 2 ^ suc n
 twice w n = mul-assoc w 2 (2 ^ n) ∙ ap (λ (a : ℕ). w * a) (mul-comm 2 (2 ^ n) ∙ sym (pow-suc 2 n))
 
@@ -113,13 +131,6 @@ keep-all (x ∷ xs) w e =
       | no z ↦
           let h = keep-all xs (w * 2) (omega (arith, ap length (keep-byte x xs z))) in
           (keep-byte x xs z ∙ ap (λ (t : Bytes). x ∷ t) (h .0), marks-byte x xs w z ∙ h .1)
-    ]
-
-pub one-or-other : (x : ℕ) → marks (x ∷ []) 1 + length (keep (x ∷ [])) ≡ 1
-one-or-other x =
-    elim (ℕ-discrete x 0) [
-      | yes e ↦ omega (arith, marks-one x 1 e, ap length (keep-none x e))
-      | no e ↦ omega (arith, marks-none x 1 e, ap length (keep-one x e))
     ]
 
 pub enc-end : (xs : Bytes) → xs ≡ [] → enc xs 0 0 ≡ []

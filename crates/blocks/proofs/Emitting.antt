@@ -6,7 +6,7 @@ use native.Mathlib.Numerals.{add-one}
 use native.Mathlib.Decide.{ℕ-discrete}
 use native.Mathlib.Omega.{arith}
 use mathlib.Core.Bool.{Bool, true, false, not}
-use mathlib.Core.Logic.{inl, inr}
+use mathlib.Core.Logic.{_⊎_, inl, inr}
 use mathlib.Core.List.{[], _∷_, _++_, append-assoc, append-nil}
 use lib.ListN.{length, take, drop, getD, set, length-append, length-set, length-drop, drop-of-length-le, take-append-drop}
 use lib.Pow.{pow-mono}
@@ -25,7 +25,7 @@ use Rattle.blocks.specs.declared.encoding.Placed.the-variants.{At, Short
 use Rattle.blocks.proofs.Answers.{fitted-done, fitted-room, encode-fitted, encode-refused}
 use Rattle.blocks.proofs.Runs.{pow-more}
 use Rattle.blocks.proofs.ThereAndBack.{zero-free-none, zero-free-one, zero-free-append}
-use Rattle.blocks.proofs.Blockwise.{keep-none, keep-one, keep-append, keep-few, marks-append, marks-below, one-or-other, enc-end, seven-on, mask-closed, run-some, run-full, run-end, run-zero, run-more}
+use Rattle.blocks.proofs.Blockwise.{keep-none, keep-one, keep-append, keep-few, keep-free, keep-fewer, marks-append, marks-below, enc-end, seven-on, mask-closed, run-some, run-full, run-end, run-zero, run-more}
 
 -- ---- stores that follow each other
 
@@ -186,18 +186,24 @@ module _ (s : Bytes) (i c o : ℕ) (old : Bytes) (t : Maskable s i c) where
 
 -- ---- a block that begins with seven bytes of data
 
-pub holes-more : (s : Bytes) (i k n : ℕ) → i + k < length s → n + length (keep (part s i k)) ≡ k
-    → n + marks (getD s (i + k) 0 ∷ []) 1 + length (keep (part s i (k + 1))) ≡ k + 1
-holes-more s i k n h e = omega (arith, count-more s i k h, one-or-other (getD s (i + k) 0))
+-- what `has_zero` says of the c bytes from a place on
+pub piece-zero : (s : Bytes) (at c : ℕ) (r : Bool) → r ≡ hasZero (part s at (at + c - at)) → hasZero (part s at c) ≡ r
+piece-zero s at c r e = let z : c ≡ at + c - at = omega arith in ap (λ (k : ℕ). hasZero (part s at k)) z ∙ sym e
 
 -- which of the two the seven bytes begin
-module _ (s : Bytes) (i n : ℕ) where
-  pub seven-full : n + length (keep (part s i 7)) ≡ 7 → n ≡ 0 → length (keep (part s i 7)) ≡ 7
-  seven-full e z = omega arith
+module _ (s : Bytes) (i : ℕ) (h : i + 7 ≤ length s) where
+  pub seven-full : hasZero (part s i 7) ≡ false → length (keep (part s i 7)) ≡ 7
+  seven-full z = keep-free (part s i 7) z ∙ part-length s i 7 h
 
-  pub seven-maskable : i + 7 ≤ length s → n + length (keep (part s i 7)) ≡ 7 → (n ≡ 0 → ⊥) → Maskable s i 7
-  seven-maskable h e z =
-      record { some = omega arith; few = omega arith; within = h; last = λ l. absurd (let w : ⊥ = omega arith in w); holed = omega (arith, z) }
+  pub seven-maskable : hasZero (part s i 7) ≡ true → Maskable s i 7
+  seven-maskable z =
+      record {
+        some = omega arith;
+        few = omega arith;
+        within = h;
+        last = λ l. absurd (let w : ⊥ = omega arith in w);
+        holed = omega (arith, keep-fewer (part s i 7) z, part-length s i 7 h);
+      }
 
 pub last-maskable : (s : Bytes) (i : ℕ) → i < length s → length s - i < 7 → Maskable s i (length s - i)
 last-maskable s i h l =
@@ -251,14 +257,15 @@ coded-at e c = rw e at c
 
 -- ---- a run
 
--- a byte more is copied
-pub copy-more : (s : Bytes) (i o n : ℕ) (old new : Bytes) → i + n < length s → new ≡ sets old o (part s i n)
-    → set new (o + n) (getD s (i + n) 0) ≡ sets old o (part s i (n + 1))
-copy-more s i o n old new h e =
+-- a byte behind those that are copied
+copied-over : (s : Bytes) (i o n : ℕ) (old new : Bytes) → i + n ≤ length s → new ≡ sets old o (part s i n) → (b : ℕ) → set new (o + n) b ≡ sets old o (part s i n ++ b ∷ [])
+copied-over s i o n old new h e b =
+    ap₂ (λ (u : Bytes) (j : ℕ). set u (o + j) b) e (sym (part-length s i n h)) ∙ sym (sets-append (part s i n) (b ∷ []) old o)
+
+free-more : (s : Bytes) (i n : ℕ) → i + n < length s → hasZero (part s i n) ≡ false → (getD s (i + n) 0 ≡ 0 → ⊥) → hasZero (part s i (n + 1)) ≡ false
+free-more s i n h z e =
     let x : ℕ = getD s (i + n) 0 in
-    ap (λ (u : Bytes). set u (o + n) x) e
-    ∙ ap (λ (j : ℕ). set (sets old o (part s i n)) (o + j) x) (sym (part-length s i n (omega arith)))
-    ∙ sym (ap (sets old o) (part-more s i n h) ∙ sets-append (part s i n) (x ∷ []) old o)
+    ap hasZero (part-more s i n h) ∙ zero-free-append (part s i n) (x ∷ []) z (zero-free-one x e)
 
 -- what a copy leaves is what stores of the part leave
 pub pasted-part : (s : Bytes) (i c : ℕ) (old : Bytes) (o : ℕ) → i + c ≤ length s → o + c ≤ length old → paste old o (drop i s) c ≡ sets old o (part s i c)
@@ -273,14 +280,16 @@ module _ (s : Bytes) (i most o : ℕ) (old : Bytes) where
   pub carrying-more : (new : Bytes) (n : ℕ) → n < most → i + most ≤ length s → (getD s (i + n) 0 ≡ 0 → ⊥) → Carrying s i most o old new n
       → Carrying s i most o old (set new (o + n) (getD s (i + n) 0)) (n + 1)
   carrying-more new n l h e k =
-      let x : ℕ = getD s (i + n) 0 in
-      let t = part-more s i n (omega arith) in
       record {
         few = omega arith;
-        free = ap hasZero t ∙ zero-free-append (part s i n) (x ∷ []) (k .free) (zero-free-one x e);
-        len = length-set new (o + n) x ∙ k .len;
-        copied = copy-more s i o n old new (omega arith) (k .copied);
+        free = free-more s i n (omega arith) (k .free) e;
+        len = length-set new (o + n) (getD s (i + n) 0) ∙ k .len;
+        copied = copied-over s i o n old new (omega arith) (k .copied) (getD s (i + n) 0) ∙ sym (ap (sets old o) (part-more s i n (omega arith)));
       }
+
+  pub carrying-ends : (new : Bytes) (n : ℕ) → Carrying s i most o old new n → i + most ≤ length s → (n < most → getD s (i + n) 0 ≡ 0) → Carries s i most o old n new
+  carrying-ends new n k h e =
+      let f = k .few in record { few = f; free = k .free; ends = e; over = copied-over s i o n old new (omega arith) (k .copied) }
 
   module _ (mid : Bytes) (n : ℕ) (k : Carrying s i most o old mid n) (h : i + most ≤ length s) (c : ℕ) (l : n + c ≤ most) where
     two-parts : part s i (n + c) ≡ part s i n ++ part s (i + n) c
@@ -289,11 +298,11 @@ module _ (s : Bytes) (i most o : ℕ) (old : Bytes) where
     free-on : hasZero (part s (i + n) c) ≡ false → hasZero (part s i (n + c)) ≡ false
     free-on z = ap hasZero two-parts ∙ zero-free-append (part s i n) (part s (i + n) c) (k .free) z
 
-    sets-on : sets mid (o + n) (part s (i + n) c) ≡ sets old o (part s i (n + c))
-    sets-on =
-        ap (λ (u : Bytes). sets u (o + n) (part s (i + n) c)) (k .copied)
-        ∙ ap (λ (j : ℕ). sets (sets old o (part s i n)) (o + j) (part s (i + n) c)) (sym (part-length s i n (omega arith)))
-        ∙ sym (ap (sets old o) two-parts ∙ sets-append (part s i n) (part s (i + n) c) old o)
+    sets-on : (v : Bytes) → sets mid (o + n) v ≡ sets old o (part s i n ++ v)
+    sets-on v =
+        ap (λ (u : Bytes). sets u (o + n) v) (k .copied)
+        ∙ ap (λ (j : ℕ). sets (sets old o (part s i n)) (o + j) v) (sym (part-length s i n (omega arith)))
+        ∙ sym (sets-append (part s i n) v old o)
 
     -- c bytes more, none of them zero
     pub carrying-piece : o + most ≤ length old → hasZero (part s (i + n) c) ≡ false → (next : Bytes) → next ≡ paste mid (o + n) (drop (i + n) s) c → Carrying s i most o old next (n + c)
@@ -303,7 +312,7 @@ module _ (s : Bytes) (i most o : ℕ) (old : Bytes) where
           few = l;
           free = free-on z;
           len = ap length p ∙ length-sets mid (o + n) (part s (i + n) c) ∙ k .len;
-          copied = p ∙ sets-on;
+          copied = p ∙ sets-on (part s (i + n) c) ∙ sym (ap (sets old o) two-parts);
         }
 
     -- c bytes more, up to a zero
@@ -313,8 +322,97 @@ module _ (s : Bytes) (i most o : ℕ) (old : Bytes) where
           few = l;
           free = free-on (m .free);
           ends = λ j. ap (λ (z : ℕ). getD s z 0) (omega arith) ∙ m .ends (omega arith);
-          copied = m .copied ∙ sets-on;
+          over = λ b.
+              ap (λ (j : ℕ). set new j b) (omega arith)
+              ∙ m .over b
+              ∙ sets-on (part s (i + n) c ++ b ∷ [])
+              ∙ ap (sets old o) (sym (append-assoc (part s i n) (part s (i + n) c) (b ∷ [])) ∙ ap (λ (t : Bytes). t ++ b ∷ []) (sym two-parts));
         }
+
+-- eight bytes with a zero among them, copied up to it
+pub carries-eight : (s : Bytes) (i most n o c : ℕ) (old new : Bytes) → (most < n + 8) ⊎ (hasZero (part s (i + n) 8) ≡ true) → 8 ≤ most - n → Carries s (i + n) 8 o old c new
+    → Carries s (i + n) (most - n) o old c new
+carries-eight s i most n o c old new (inl w) l m = absurd (let v : ⊥ = omega arith in v)
+carries-eight s i most n o c old new (inr z) l m =
+    let f : c < 8 = elim (ℕ-discrete c 8) [
+      | yes e ↦
+          let w : true ≡ false = sym z ∙ ap (λ (k : ℕ). hasZero (part s (i + n) k)) (sym e) ∙ m .free in
+          let q : _≡_ {A = ℕ} 0 1 = cc in omega arith
+      | no e ↦ omega (arith, e, m .few)
+    ] in
+    record { few = omega arith; free = m .free; ends = λ _. m .ends f; over = m .over }
+
+-- k bytes of eight are read: the run goes on as long as all of them are copied
+pub record Ending (s : Bytes) (i o : ℕ) (old new : Bytes) (k n going : ℕ) : Type 0 where
+  pub within : k ≤ 8
+  pub len : length new ≡ length old
+  pub carries : Carries s i k o old n new
+  pub either : ((going ≡ 1) × (n ≡ k)) ⊎ ((going ≡ 0) × (n < k))
+
+module _ (s : Bytes) (i o : ℕ) (old : Bytes) (h : i + 8 ≤ length s) where
+  pub ending-none : Ending s i o old old 0 0 1
+  ending-none = record { within = omega arith; len = refl; carries = carrying-ends s i 0 o old old 0 (carrying-none s i 0 o old) (omega arith) (λ l. absurd (let v : ⊥ = omega arith in v)); either = inl (refl, refl) }
+
+  module _ (new : Bytes) (k n going : ℕ) (c : Ending s i o old new k n going) where
+    pub ended : 8 ≤ k → Carries s i 8 o old n new
+    ended l = let e : k ≡ 8 = omega (arith, c .within) in rw e at (c .carries)
+
+    module _ (one : ℕ) (u : one ≡ length (keep (getD s (i + k) 0 ∷ []))) where
+      -- the product that says whether it still goes on
+      pub going-few : going * one ≤ 1
+      going-few =
+          let f = keep-few (getD s (i + k) 0 ∷ []) in
+          elim (c .either) [ inl w ↦ rw (w .0) (omega arith) | inr w ↦ rw (w .0) (omega arith) ]
+
+      module _ (l : k < 8) where
+        abbrev x : ℕ
+        x = getD s (i + k) 0
+
+        still : going * one ≡ 0 → getD s (i + n) 0 ≡ 0 → Ending s i o old (set new (o + n) x) (k + 1) (n + going * one) (going * one)
+        still g z =
+            let m = c .carries in
+            let f = m .few in
+            rw (g, add-zero n)
+            (record {
+              within = omega arith;
+              len = length-set new (o + n) x ∙ c .len;
+              carries = record { few = omega arith; free = m .free; ends = λ _. z; over = λ b. set-set new (o + n) x b ∙ m .over b };
+              either = inr (refl, omega arith);
+            })
+
+        onward : going * one ≡ 1 → n ≡ k → (getD s (i + n) 0 ≡ 0 → ⊥) → Ending s i o old (set new (o + n) (getD s (i + n) 0)) (n + 1) (n + going * one) (going * one)
+        onward g e z =
+            let m = c .carries in
+            let y : ℕ = getD s (i + n) 0 in
+            let t = m .over y ∙ sym (ap (sets old o) (part-more s i n (omega arith))) in
+            rw g
+            (record {
+              within = omega arith;
+              len = length-set new (o + n) y ∙ c .len;
+              carries = record {
+                few = omega arith;
+                free = free-more s i n (omega arith) (m .free) z;
+                ends = λ v. absurd (let w : ⊥ = omega arith in w);
+                over = copied-over s i o (n + 1) old (set new (o + n) y) (omega arith) t;
+              };
+              either = inl (refl, refl);
+            })
+
+        pub ending-more : Ending s i o old (set new (o + n) x) (k + 1) (n + going * one) (going * one)
+        ending-more =
+            elim (c .either) [
+              | inl w ↦ elim (ℕ-discrete x 0) [
+                | yes z ↦ still (rw (u, keep-none _ z, w .0) refl) (ap (λ (j : ℕ). getD s (i + j) 0) (w .1) ∙ z)
+                | no z ↦
+                    let a = onward (rw (u, keep-one _ z, w .0) refl) (w .1) (λ q. z (ap (λ (j : ℕ). getD s (i + j) 0) (sym (w .1)) ∙ q)) in
+                    ending-at (w .1) a
+              ]
+              | inr w ↦ still (rw (w .0) (omega arith)) (c .carries .ends (w .1))
+            ]
+          where
+            ending-at : {j : ℕ} → n ≡ j → Ending s i o old (set new (o + n) (getD s (i + n) 0)) (n + 1) (n + going * one) (going * one)
+                → Ending s i o old (set new (o + n) (getD s (i + j) 0)) (j + 1) (n + going * one) (going * one)
+            ending-at e a = rw (sym e) a
 
 module _ (s : Bytes) (i o : ℕ) (old : Bytes) (most lim n : ℕ) (new : Bytes) (h : i ≤ length s) (r : o < length old)
     (a : Lesser (length s - i) 127 most) (b : Lesser most (length old - o - 1) lim) (k : Carries s i lim o old n new) where
@@ -330,10 +428,6 @@ module _ (s : Bytes) (i o : ℕ) (old : Bytes) (most lim n : ℕ) (new : Bytes) 
   count : length (part s i n) ≡ n
   count = part-length s i n (few-enough .1)
 
-  stored : set new (o + n) (128 + n) ≡ sets old o (part s i n ++ (128 + n) ∷ [])
-  stored =
-      ap₂ (λ (u : Bytes) (j : ℕ). set u (o + j) (128 + n)) (k .copied) (sym count) ∙ sym (sets-append (part s i n) ((128 + n) ∷ []) old o)
-
   run-at : (i′ : ℕ) → i ≤ i′ → i′ ≤ length s → enc (drop i s) 7 0 ≡ part s i n ++ (128 + length (part s i n)) ∷ enc (drop i′ s) 0 0
       → Coded 7 s i o old i′ (o + n + 1) (set new (o + n) (128 + n))
   run-at i′ l m e =
@@ -345,7 +439,7 @@ module _ (s : Bytes) (i o : ℕ) (old : Bytes) (most lim n : ℕ) (new : Bytes) 
         is = e ∙ ap (λ (j : ℕ). part s i n ++ (128 + j) ∷ enc (drop i′ s) 0 0) count;
         place = omega (arith, count);
         room = omega (arith, few-enough .2);
-        written = stored;
+        written = k .over (128 + n);
       }
 
   from : (e : Bytes) → enc (part s i n ++ drop (i + n) s) 7 0 ≡ e → enc (drop i s) 7 0 ≡ e

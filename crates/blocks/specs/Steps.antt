@@ -91,12 +91,12 @@ pub record Carrying (s : Bytes) (i most o : ℕ) (old new : Bytes) (n : ℕ) : T
   pub len : length new ≡ length old
   pub copied : new ≡ sets old o (part s i n)
 
--- n bytes were copied, up to a zero or as many as were wanted
+-- n bytes were copied, up to a zero or as many as were wanted. What the place behind them holds is to be written over.
 pub record Carries (s : Bytes) (i most o : ℕ) (old : Bytes) (n : ℕ) (new : Bytes) : Type 0 where
   pub few : n ≤ most
   pub free : hasZero (part s i n) ≡ false
   pub ends : n < most → getD s (i + n) 0 ≡ 0
-  pub copied : new ≡ sets old o (part s i n)
+  pub over : (b : ℕ) → set new (o + n) b ≡ sets old o (part s i n ++ b ∷ [])
 
 -- c bytes that their mask closes: seven, or the message's last, and not seven bytes of data
 pub record Maskable (s : Bytes) (i c : ℕ) : Type 0 where

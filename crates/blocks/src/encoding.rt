@@ -1,9 +1,12 @@
 // Encoding: the message is read forward, a block at a time, and the control of a block is written behind its data.
 ghost use mathlib.Core.Path.{_≡_};
+ghost use mathlib.Core.Logic.{_⊎_};
+ghost use mathlib.Core.Bool.{true};
 ghost use mathlib.Core.List.{[], _∷_};
 ghost use Prim.Native.Nat.{_+_, _≤_, _<_};
 ghost use lib.ListN.{length};
 ghost use lib.Dec.{ltb};
+ghost use Rattle.blocks.specs.Blocks.{hasZero};
 ghost use Rattle.blocks.specs.Steps.{keep, marks, part, Lesser, Packs, Carrying, Carries, Maskable, Codes, Writes};
 use crate::copies::copy_7;
 use crate::copies::copy_8;
@@ -89,6 +92,7 @@ fn eights(message: &[u8], i: usize, most: usize, out: &mut [u8], o: usize) -> us
     requires { ⌜ i + most ≤ length (now message) ⌝ }
     requires { ⌜ o + most ≤ length (now out) ⌝ }
     ensures { λ r. ⌜ Carrying (now (message .entry)) i most o (now (out .entry)) (now (out .exit)) r ⌝ }
+    ensures { λ r. ⌜ (most < r + 8) ⊎ (hasZero (part (now (message .entry)) (i + r) 8) ≡ true) ⌝ }
 {
     let mut n = 0;
     while 8 <= most - n {
@@ -120,6 +124,26 @@ fn singles(message: &[u8], i: usize, most: usize, out: &mut [u8], o: usize) -> u
     n
 }
 
+// The same for eight bytes, with no branch on what they are, for where a zero comes cannot be foreseen. The zero is written too, and what
+// comes behind it over it.
+fn tail(message: &[u8], i: usize, out: &mut [u8], o: usize) -> usize
+    requires { ⌜ i + 8 ≤ length (now message) ⌝ }
+    requires { ⌜ o + 8 ≤ length (now out) ⌝ }
+    ensures { λ r. ⌜ Carries (now (message .entry)) i 8 o (now (out .entry)) r (now (out .exit)) ⌝ }
+{
+    let mut k = 0;
+    let mut n = 0;
+    let mut going = 1;
+    while k < 8 {
+        let x = message[i + k];
+        out[o + n] = x;
+        going *= one(x);
+        n += going;
+        k += 1;
+    }
+    n
+}
+
 // Copies the bytes from place i on, up to a zero, and at most as many as that; answers how many they are.
 fn carry(message: &[u8], i: usize, most: usize, out: &mut [u8], o: usize) -> usize
     requires { ⌜ i + most ≤ length (now message) ⌝ }
@@ -127,6 +151,9 @@ fn carry(message: &[u8], i: usize, most: usize, out: &mut [u8], o: usize) -> usi
     ensures { λ r. ⌜ Carries (now (message .entry)) i most o (now (out .entry)) r (now (out .exit)) ⌝ }
 {
     let n = eights(message, i, most, out, o);
+    if 8 <= most - n {
+        return n + tail(message, i + n, out, o + n);
+    }
     n + singles(message, i + n, most - n, out, o + n)
 }
 
@@ -146,20 +173,6 @@ fn run(message: &[u8], i: usize, out: &mut [u8], o: usize) -> Placed
         return Placed::At(i + n + 1, o + n + 1);
     }
     Placed::Short
-}
-
-// How many of the seven bytes from place i on are zero.
-fn holes(message: &[u8], i: usize) -> u8
-    requires { ⌜ i + 7 ≤ length (now message) ⌝ }
-    ensures { λ r. ⌜ r + length (keep (part (now (message .entry)) i 7)) ≡ 7 ⌝ }
-{
-    let mut k = 0;
-    let mut n: u8 = 0;
-    while k < 7 {
-        n += mark(message[i + k], 1);
-        k += 1;
-    }
-    n
 }
 
 // A block that begins with seven bytes of data.
@@ -200,10 +213,10 @@ fn step(message: &[u8], i: usize, out: &mut [u8], o: usize) -> Placed
     if left < 7 {
         return block(message, i, left, out, o);
     }
-    if holes(message, i) == 0 {
-        return long(message, i, out, o);
+    if has_zero(&message[i..i + 7]) {
+        return block(message, i, 7, out, o);
     }
-    block(message, i, 7, out, o)
+    long(message, i, out, o)
 }
 
 // Inner: writes the coding of a message, if there is room for it.

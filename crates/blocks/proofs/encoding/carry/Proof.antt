@@ -1,6 +1,6 @@
 use mathlib.Core.Path.{_∙_}
 use native.Mathlib.Omega.{arith}
-use Rattle.blocks.proofs.Emitting.{carries-on}
+use Rattle.blocks.proofs.Emitting.{carries-on, carries-eight}
 use Rattle.blocks.proofs.encoding.carry.Statement.{statement}
 use Rattle.blocks.proofs.encoding.carry.Tie as tie
 
@@ -8,14 +8,18 @@ pub carry-spec : {M : Type 1} → statement M
 carry-spec =
     tie.close
     (tie.spec
-    (λ c κs. (c .before .before .before .pre .0, c .before .before .before .pre .1))
-    (λ c. omega (arith, c .before .before .eights .ensures .few))
-    (λ c. omega (arith, c .before .before .eights .ensures .few))
-    (λ c. omega (arith, c .before .before .before .eights .ensures .few))
-    (λ c κs. (omega (arith, c .before .before .before .eights .ensures .few), omega (arith, c .before .before .before .eights .ensures .few, c .before .before .before .eights .ensures .len)))
-    (λ c. omega (arith, c .before .before .singles .ensures .few, c .before .before .before .before .before .before .eights .ensures .few))
-    (λ c. c .before .before .singles .kept .1 .1 .1 .0 ∙ c .before .before .before .before .before .before .eights .ensures .len)
-    (λ c.
-    let n = c .before .before .before .before .before .before .eights in
-    let m = c .before .before .singles in
-    carries-on _ _ _ _ _ _ (n .result) (n .ensures) (c .before .before .before .before .before .before .before .before .before .before .pre .0) (m .result) (omega (arith, n .ensures .few, m .ensures .few)) _ (m .ensures)))
+    (λ c κs. ((c .before .before .before .pre .0), (c .before .before .before .pre .1)))
+    (λ c. omega (arith, (c .before .before .eights .ensures .0 .few)))
+    (λ c. omega (arith, (c .before .before .before .eights .ensures .0 .few)))
+    (λ c. omega (arith, (c .before .before .before .before .eights .ensures .0 .few)))
+    (λ c κs. (omega (arith, (c .before .before .before .before .eights .ensures .0 .few)), omega (arith, (c .before .before .before .before .eights .ensures .0 .few), (c .before .before .before .before .eights .ensures .0 .len))))
+    (λ c. omega (arith, (c .before .before .tail .ensures .few), (c .before .before .before .before .before .before .before .eights .ensures .0 .few)))
+    (λ c. (c .before .before .tail .kept .1 .1 .0) ∙ (c .before .before .before .before .before .before .before .eights .ensures .0 .len))
+    (λ c. let n = (c .before .before .before .before .before .before .before .eights) in let m = (c .before .before .tail) in carries-on _ _ _ _ _ _ (n .result) (n .ensures .0) (c .before .before .before .before .before .before .before .before .before .before .before .pre .0) (m .result) (omega (arith, n .ensures .0 .few, m .ensures .few)) _ (carries-eight _ _ _ (n .result) _ _ _ _ (n .ensures .1) (c .before .before .before .before .if1 .taken) (m .ensures)))
+    (λ c. omega (arith, (c .before .before .before .eights .ensures .0 .few)))
+    (λ c. omega (arith, (c .before .before .before .eights .ensures .0 .few)))
+    (λ c. omega (arith, (c .before .before .before .before .eights .ensures .0 .few)))
+    (λ c κs. (omega (arith, (c .before .before .before .before .eights .ensures .0 .few)), omega (arith, (c .before .before .before .before .eights .ensures .0 .few), (c .before .before .before .before .eights .ensures .0 .len))))
+    (λ c. omega (arith, (c .before .before .singles .ensures .few), (c .before .before .before .before .before .before .before .eights .ensures .0 .few)))
+    (λ c. (c .before .before .singles .kept .1 .1 .1 .0) ∙ (c .before .before .before .before .before .before .before .eights .ensures .0 .len))
+    (λ c. let n = (c .before .before .before .before .before .before .before .eights) in let m = (c .before .before .singles) in carries-on _ _ _ _ _ _ (n .result) (n .ensures .0) (c .before .before .before .before .before .before .before .before .before .before .before .pre .0) (m .result) (omega (arith, n .ensures .0 .few, m .ensures .few)) _ (m .ensures)))

@@ -1,9 +1,9 @@
 use Prim.Native.Nat.{ℕ, _+_, _-_}
-use mathlib.Core.Path.{_≡_, sym, ap, _∙_}
+use mathlib.Core.Path.{_∙_}
 use native.Mathlib.Omega.{arith}
-use Rattle.blocks.proofs.Emitting.{carrying-none, carrying-piece}
-use Rattle.blocks.specs.Blocks.{hasZero}
-use Rattle.blocks.specs.Steps.{part, Carrying}
+use mathlib.Core.Logic.{inl, inr}
+use Rattle.blocks.proofs.Emitting.{carrying-none, carrying-piece, piece-zero}
+use Rattle.blocks.specs.Steps.{Carrying}
 use Rattle.blocks.proofs.encoding.eights.Statement.{statement}
 use Rattle.blocks.proofs.encoding.eights.Tie as tie
 
@@ -28,7 +28,7 @@ eights-spec =
     (λ c. omega arith)
     (λ c κs. tt)
     (λ c. c .before .before .before .before .loop .inv .len)
-    (λ c. c .before .before .before .before .loop .inv)
+    (λ c. ((c .before .before .before .before .loop .inv), inr (piece-zero _ ((c .before .before .before .before .before .before .before .args .i) + (c .before .before .before .before .loop .n)) 8 _ (c .before .has-zero .ensures) ∙ (c .if1 .taken))))
     (λ c. omega arith)
     (λ c κs. (omega arith, omega arith))
     (λ c. omega arith)
@@ -37,8 +37,7 @@ eights-spec =
     let a = c .before .before .before .before .before .before .before .before .before .before .before in
     let l = c .before .before .before .before .before .before .before .before .loop in
     let at : ℕ = a .args .i + l .n in
-    let z : 8 ≡ at + 8 - at = omega arith in
-    let free = ap (λ (k : ℕ). hasZero (part (a .args .message .now) at k)) z ∙ sym (c .before .before .before .before .before .has-zero .ensures) ∙ c .before .before .before .before .if1 .left in
+    let free = piece-zero (a .args .message .now) at 8 _ (c .before .before .before .before .before .has-zero .ensures) ∙ c .before .before .before .before .if1 .left in
     carrying-piece (a .args .message .now) (a .args .i) (a .args .most) (a .args .o) (a .args .out .now) (l .out) (l .n) (l .inv) (a .pre .0) 8 (omega arith) (a .pre .1) free _ (c .before .before .copy-8 .ensures))
     (λ c. c .before .loop .inv .len)
-    (λ c. c .before .loop .inv))
+    (λ c. (c .before .loop .inv, inl (omega arith))))

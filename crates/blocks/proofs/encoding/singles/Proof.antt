@@ -1,7 +1,7 @@
 use Prim.Native.Nat.{_-_}
 use native.Mathlib.Omega.{arith}
 use Rattle.blocks.specs.Steps.{Carrying}
-use Rattle.blocks.proofs.Emitting.{carrying-none, carrying-more}
+use Rattle.blocks.proofs.Emitting.{carrying-none, carrying-more, carrying-ends}
 use Rattle.blocks.proofs.encoding.singles.Statement.{statement}
 use Rattle.blocks.proofs.encoding.singles.Tie as tie
 
@@ -23,7 +23,7 @@ singles-spec =
     (λ c. c .before .before .before .loop .inv .len)
     (λ c.
     let l = c .before .before .before .loop in
-    record { few = l .inv .few; free = l .inv .free; ends = λ h. c .if1 .taken; copied = l .inv .copied })
+    carrying-ends _ _ _ _ _ _ (l .n) (l .inv) (c .before .before .before .before .pre .0) (λ h. c .if1 .taken))
     (λ c. omega arith)
     (λ c. omega (arith, c .before .before .before .loop .inv .len))
     (λ c. omega arith)
@@ -34,4 +34,4 @@ singles-spec =
     (λ c. c .before .loop .inv .len)
     (λ c.
     let l = c .before .loop in
-    record { few = l .inv .few; free = l .inv .free; ends = λ h. absurd (let w : ⊥ = omega arith in w); copied = l .inv .copied }))
+    carrying-ends _ _ _ _ _ _ (l .n) (l .inv) (c .before .before .pre .0) (λ h. absurd (let w : ⊥ = omega arith in w))))
