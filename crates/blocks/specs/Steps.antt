@@ -91,6 +91,11 @@ pub record Carrying (s : Bytes) (i most o : ℕ) (old new : Bytes) (n : ℕ) : T
   pub len : length new ≡ length old
   pub copied : new ≡ sets old o (part s i n)
 
+-- the same by eights, up to an eight with a zero in it, or to where fewer than eight are left
+pub record CarriesEights (s : Bytes) (i most o : ℕ) (old new : Bytes) (n : ℕ) : Type 0 where
+  pub carrying : Carrying s i most o old new n
+  pub stops : (most < n + 8) ⊎ (hasZero (part s (i + n) 8) ≡ true)
+
 -- n bytes were copied, up to a zero or as many as were wanted. What the place behind them holds is to be written over.
 pub record Carries (s : Bytes) (i most o : ℕ) (old : Bytes) (n : ℕ) (new : Bytes) : Type 0 where
   pub few : n ≤ most

@@ -1,13 +1,10 @@
 // Encoding: the message is read forward, a block at a time, and the control of a block is written behind its data.
 ghost use mathlib.Core.Path.{_≡_};
-ghost use mathlib.Core.Logic.{_⊎_};
-ghost use mathlib.Core.Bool.{true};
 ghost use mathlib.Core.List.{[], _∷_};
 ghost use Prim.Native.Nat.{_+_, _≤_, _<_};
 ghost use lib.ListN.{length};
 ghost use lib.Dec.{ltb};
-ghost use Rattle.blocks.specs.Blocks.{hasZero};
-ghost use Rattle.blocks.specs.Steps.{keep, marks, part, Lesser, Packs, Carrying, Carries, Maskable, Codes, Writes};
+ghost use Rattle.blocks.specs.Steps.{keep, marks, part, Lesser, Packs, CarriesEights, Carries, Maskable, Codes, Writes};
 use crate::copies::copy_7;
 use crate::copies::copy_8;
 use crate::decoding::has_zero;
@@ -91,8 +88,7 @@ fn pack(message: &[u8], i: usize, c: usize, out: &mut [u8], o: usize) -> Packed
 fn eights(message: &[u8], i: usize, most: usize, out: &mut [u8], o: usize) -> usize
     requires { ⌜ i + most ≤ length (now message) ⌝ }
     requires { ⌜ o + most ≤ length (now out) ⌝ }
-    ensures { λ r. ⌜ Carrying (now (message .entry)) i most o (now (out .entry)) (now (out .exit)) r ⌝ }
-    ensures { λ r. ⌜ (most < r + 8) ⊎ (hasZero (part (now (message .entry)) (i + r) 8) ≡ true) ⌝ }
+    ensures { λ r. ⌜ CarriesEights (now (message .entry)) i most o (now (out .entry)) (now (out .exit)) r ⌝ }
 {
     let mut n = 0;
     while 8 <= most - n {
@@ -124,9 +120,9 @@ fn singles(message: &[u8], i: usize, most: usize, out: &mut [u8], o: usize) -> u
     n
 }
 
-// The same for eight bytes, with no branch on what they are, for where a zero comes cannot be foreseen. The zero is written too, and what
-// comes behind it over it.
-fn tail(message: &[u8], i: usize, out: &mut [u8], o: usize) -> usize
+// The same for the eight in which a run ends, with no branch on what its bytes are: where a zero comes cannot be foreseen. The zero is
+// written too, and every byte behind it over it.
+fn last_eight(message: &[u8], i: usize, out: &mut [u8], o: usize) -> usize
     requires { ⌜ i + 8 ≤ length (now message) ⌝ }
     requires { ⌜ o + 8 ≤ length (now out) ⌝ }
     ensures { λ r. ⌜ Carries (now (message .entry)) i 8 o (now (out .entry)) r (now (out .exit)) ⌝ }
@@ -152,7 +148,7 @@ fn carry(message: &[u8], i: usize, most: usize, out: &mut [u8], o: usize) -> usi
 {
     let n = eights(message, i, most, out, o);
     if 8 <= most - n {
-        return n + tail(message, i + n, out, o + n);
+        return n + last_eight(message, i + n, out, o + n);
     }
     n + singles(message, i + n, most - n, out, o + n)
 }

@@ -1,5 +1,5 @@
--- A type as one number, and what such numbers say of a text. No rule of 01 stands here: what a text's
--- parameters are is said by `scanOf` alone. Definitions only.
+-- A type as one number, and what such numbers say of a text. No rule of 01 stands here: what a text's parameters are is said by `scanOf`
+-- alone. Definitions only.
 use Prim.Native.Nat.{ℕ, _+_, _/_, _%_, _≤_, _<_}
 use mathlib.Core.Path.{_≡_}
 use mathlib.Core.Bool.{true, false}

@@ -1,7 +1,7 @@
 // The grammar of format texts (01, "Book"): what stands at a place of a text, and the parameters of a whole text.
 //
-// `next` is the one reader of a text: decoding and text both walk by it. `scan` is FORMAT, or the parameters as decoding wants
-// them: in the order of their positions, each position once.
+// `next` is the one reader of a text: decoding and text both walk by it. `scan` is FORMAT, or the parameters in the order of their positions,
+// each position once. `line_up` is FORMAT, or the types of these alone, as decoding wants them.
 mod codes;
 mod fragments;
 mod hints;

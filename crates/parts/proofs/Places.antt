@@ -84,10 +84,6 @@ span-within [] b = omega (arith, span-none b)
 span-within (x ∷ xs) b =
     by-test (eqb x b) (λ e. omega (arith, span-found x xs b e)) (λ e. omega (arith, span-passed x xs b e, span-within xs b))
 
-pub nextByte-is : (s : Bytes) (at b : ℕ) → nextByte s at b ≡ at + span (drop at s) b
-unfolding nextByte
-nextByte-is s at b = refl
-
 pub nextByte-within : (s : Bytes) (at b : ℕ) → at ≤ length s → (at ≤ nextByte s at b) × (nextByte s at b ≤ length s)
 unfolding nextByte
 nextByte-within s at b h = let p = span-within (drop at s) b in let q = length-drop at s in (omega arith, omega arith)

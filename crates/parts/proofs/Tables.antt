@@ -25,10 +25,6 @@ module _ (n : Bytes) (ns : List Bytes) (s : Bytes) (at k : ℕ) where
   unfolding firstName
   firstName-later e = rw (e, firstName)
 
--- a name that stands at a place ends inside the text
-pub name-inside : (name s : Bytes) (at : ℕ) → begins name (drop at s) ≡ true → 0 < length name → at + length name ≤ length s
-name-inside name s at b h = let l = begins-fits name (drop at s) b in omega (arith, length-drop at s)
-
 -- the number of a name is below how many there are
 pub name-below : (ws : List Bytes) (s : Bytes) (at k₀ k n : ℕ) → firstName ws s at k₀ ≡ Name k n → k < k₀ + length ws
 unfolding firstName

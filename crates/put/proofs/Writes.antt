@@ -135,9 +135,6 @@ writing-more {t = t} {rest′ = rest′} w p e = record {
 pub writing-all : {old text new rest : Bytes} {at q : ℕ} → Writing old at text new q rest → rest ≡ [] → Put old at text new q
 writing-all w e = put-as (w .put) (sym (append-nil _) ∙ ap (λ (l : Bytes). w .done ++ l) (sym e) ∙ w .whole) refl
 
-pub writing-stop : {old text new rest : Bytes} {at q : ℕ} → Writing old at text new q rest → length new < q → Put old at text new q
-writing-stop {rest = rest} w h = put-as (put-stop rest (w .put) h) (w .whole) refl
-
 -- the answer says exactly whether the text fits
 pub put-room : {a b t : Bytes} {at r : ℕ} → Put a at t b r → (r ≤ length a) ↔ (at + length t ≤ length a)
 put-room {a} {b} {t} {at} {r} p =

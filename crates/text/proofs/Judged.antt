@@ -86,7 +86,7 @@ with-told j m k own sort.Other = refl
 with-told j m k own sort.Quoted = refl
 with-told j m k own sort.Debugged = refl
 
-or-false : (a : Bool) → a ≡ (a || false)
+pub or-false : (a : Bool) → a ≡ (a || false)
 or-false true = refl
 or-false false = refl
 

@@ -13,27 +13,23 @@ use Rattle.format.specs.declared.hints.Hint.{Hint}
 use Rattle.put.specs.Put.{Bytes, Put}
 use Rattle.text.specs.Prints.{Text, unprintable, Prints}
 use Rattle.text.specs.Hints.{sortOf, orElse}
-use Rattle.text.specs.Leaves.{valueOf, seenAs, named, interned, stringUnder, textOf, leafOf, badOf, plainOf, leafPlain, leafBad, blankOf, leafBlank}
+use Rattle.text.specs.Leaves.{valueOf, seenAs, named, interned, stringUnder, textOf, leafOf, badOf, leafBad, blankOf, leafBlank}
+use Rattle.text.specs.Marks.{plainOf, leafPlain}
 use Rattle.text.specs.declared.hints.Sort.{Sort}
 use Rattle.text.specs.declared.hints.Sort.the-variants as sort
 use Rattle.text.specs.declared.numbers.Seen.{Seen}
 use Rattle.text.specs.declared.leaves.Value.{Value}
 use Rattle.text.specs.declared.leaves.Value.the-variants as value
-
-some-is : {t u : Bytes} → some t ≡ some u → t ≡ u
-some-is e = cc
-
-none-some : {u : Bytes} {A : Type 0} → _≡_ {A = Text} none (some u) → A
-none-some e = absurd (let z : _≡_ {A = ℕ} 0 1 = cc in omega arith)
+use Rattle.text.proofs.Joins.{some-some, none-some}
 
 -- ---- writing
 
 module _ {t : Text} {old new : Bytes} {at r : ℕ} where
   pub prints : {u : Bytes} → some u ≡ t → Put old at u new r → Prints t old at new r
-  prints e p = record { kept = p .kept; put = λ v f. subst (λ (w : Bytes). Put old at w new r) (some-is (e ∙ f)) p }
+  prints e p = record { kept = p .kept; put = λ v f. subst (λ (w : Bytes). Put old at w new r) (some-some _ _ (e ∙ f)) p }
 
   pub prints-none : none ≡ t → length new ≡ length old → Prints t old at new r
-  prints-none e k = record { kept = k; put = λ v f. none-some (e ∙ f) }
+  prints-none e k = record { kept = k; put = λ v f. absurd (none-some _ (e ∙ f)) }
 
   pub prints-string : (s : Sort) {u : Bytes} → stringUnder s u ≡ t → Put old at u new r → Prints t old at new r
   unfolding stringUnder
@@ -111,13 +107,13 @@ empty (x ∷ t) e = absurd (let z : length (x ∷ t) ≡ 0 = eqb-true _ 0 e in o
 
 under-blank : (s : Sort) {t u : Bytes} → t ≡ [] → stringUnder s t ≡ some u → u ≡ []
 unfolding stringUnder
-under-blank sort.Quoted e f = sym (some-is f) ∙ e
-under-blank sort.Debugged e f = none-some f
-under-blank sort.Other e f = sym (some-is f) ∙ e
+under-blank sort.Quoted e f = sym (some-some _ _ f) ∙ e
+under-blank sort.Debugged e f = absurd (none-some _ f)
+under-blank sort.Other e f = sym (some-some _ _ f) ∙ e
 
 value-blank : (v : Value) (m b : Bytes) (seen : Seen) (own parent : Hint) (x y : ℕ) {u : Bytes} → blankOf v m b x y ≡ true → textOf v m b seen own parent x y ≡ some u → u ≡ []
 unfolding textOf blankOf
-value-blank value.Nothing m b seen own parent x y e f = sym (some-is f)
+value-blank value.Nothing m b seen own parent x y e f = sym (some-some _ _ f)
 value-blank value.Truth m b seen own parent x y e f = never e
 value-blank value.Unsigned m b seen own parent x y e f = never e
 value-blank value.Signed m b seen own parent x y e f = never e

@@ -34,6 +34,7 @@ use Rattle.text.specs.declared.walk.Class.the-variants as class
 use Rattle.text.specs.declared.judging.Judged.{Judged}
 use Rattle.text.specs.declared.judging.Sides.{Sides}
 use Rattle.text.proofs.Joins.{un-before, un-join, un-some}
+use Rattle.text.proofs.Judged.{or-false}
 use Rattle.text.proofs.LeafLaws.{leaf-judged, leaf-never, leaf-empty}
 use Rattle.text.proofs.Later.{later-is, text-past, text-leaf, text-format, text-list, text-sequence}
 use Rattle.text.proofs.Cases.{between-nothing, each-more, both-true}
@@ -64,10 +65,22 @@ judges-as {j} y e w = record { bad = λ h. w .bad h ∙ ap unprintable (sym (e h
 
 -- ---- rows by class
 
-told-plain : (s : Sort) → told plain s ≡ false
-told-plain sort.Other = refl
-told-plain sort.Quoted = refl
-told-plain sort.Debugged = refl
+never-told : (j : Judged) (s : Sort) → never j ≡ true → told j s ≡ false
+never-told j s e = by s (j .other) (j .quoted) (j .debugged) refl refl refl e
+  where
+    no : {X : Type 0} → false ≡ true → X
+    no e = absurd (let z : _≡_ {A = ℕ} 0 1 = cc in omega arith)
+
+    by : (s : Sort) (a b c : Bool) → j .other ≡ a → j .quoted ≡ b → j .debugged ≡ c → (not a && not b && not c) ≡ true → told j s ≡ false
+    by sort.Other false b c ea eb ec g = ea
+    by sort.Quoted false false c ea eb ec g = eb
+    by sort.Debugged false false false ea eb ec g = ec
+    by sort.Debugged false false true ea eb ec g = no g
+    by sort.Debugged false true c ea eb ec g = no g
+    by sort.Quoted false true c ea eb ec g = no g
+    by sort.Other true b c ea eb ec g = no g
+    by sort.Quoted true b c ea eb ec g = no g
+    by sort.Debugged true b c ea eb ec g = no g
 
 side-alike : (j : Judged) (b : Bool) → side (record { apart = j; item = j }) b ≡ j
 side-alike j true = refl
@@ -172,10 +185,6 @@ each-turn inner rows seen h n e e′ l k =
 
 -- ---- lists
 
-or-false : (a : Bool) → (a || false) ≡ a
-or-false true = refl
-or-false false = refl
-
 module _ (inner : Inner) (book rows : List ℕ) (n first : ℕ) where
   each-commas : (h : Hint) (m e : ℕ) → unprintable (eachOf inner rows kind.Format true h m e) ≡ unprintable (eachOf inner rows kind.Format false h m e)
   unfolding eachOf
@@ -184,11 +193,11 @@ module _ (inner : Inner) (book rows : List ℕ) (n first : ℕ) where
 
   un-plain : (h : Hint) → unprintable (plainOf inner rows h n first) ≡ unprintable (eachOf inner rows kind.Format false h n first)
   unfolding plainOf unprintable
-  un-plain h = un-before _ _ ∙ un-join (eachOf inner rows kind.Format true h n first) (some (93 ∷ [])) ∙ or-false _ ∙ each-commas h n first
+  un-plain h = un-before _ _ ∙ un-join (eachOf inner rows kind.Format true h n first) (some (93 ∷ [])) ∙ sym (or-false _) ∙ each-commas h n first
 
   un-quoted : unprintable (quotedOf rows n first) ≡ unprintable (bytesOf rows n first)
   unfolding quotedOf unprintable
-  un-quoted = un-before _ _ ∙ un-join (bytesOf rows n first) (some (34 ∷ [])) ∙ or-false _
+  un-quoted = un-before _ _ ∙ un-join (bytesOf rows n first) (some (34 ∷ [])) ∙ sym (or-false _)
 
   module _ (j : Judged) (w : Judges (λ h. eachOf inner rows kind.Format false h n first) j) (some? : Bool) (es : some? ≡ someByte book rows n first) where
     no-blank : (q : Bool) (h : Hint) (u : Bytes) → false ≡ true → u ≡ []
@@ -270,23 +279,6 @@ module _ (book message rows : List ℕ) where
       go i l g (yes p) = subst (λ (x : ℕ). Known book message rows x (sidesAt new x)) (sym p) (subst (Known book message rows row) (sym (m .here)) k)
       go i l g (no p) = subst (Known book message rows i) (sym (m .elsewhere i p)) (w .marked i (omega arith) g)
 
-  never-told : (j : Judged) (s : Sort) → never j ≡ true → told j s ≡ false
-  never-told j s e = by s (j .other) (j .quoted) (j .debugged) refl refl refl e
-    where
-      no : {X : Type 0} → false ≡ true → X
-      no e = absurd (let z : _≡_ {A = ℕ} 0 1 = cc in omega arith)
-
-      by : (s : Sort) (a b c : Bool) → j .other ≡ a → j .quoted ≡ b → j .debugged ≡ c → (not a && not b && not c) ≡ true → told j s ≡ false
-      by sort.Other false b c ea eb ec g = ea
-      by sort.Quoted false false c ea eb ec g = eb
-      by sort.Debugged false false false ea eb ec g = ec
-      by sort.Debugged false false true ea eb ec g = no g
-      by sort.Debugged false true c ea eb ec g = no g
-      by sort.Quoted false true c ea eb ec g = no g
-      by sort.Other true b c ea eb ec g = no g
-      by sort.Quoted true b c ea eb ec g = no g
-      by sort.Debugged true b c ea eb ec g = no g
-
   past-fine : (row : ℕ) (seen : Kind) (own parent : Hint) → countOf rows ≤ row → unprintable (textOf book message rows row seen own parent) ≡ false
   past-fine row seen own parent h = un-some [] (text-past book message rows row seen own parent h)
 
@@ -358,7 +350,7 @@ module _ (book message rows : List ℕ) where
           (un-before _ _ ∙ go n (nextOf rows row) (omega (arith, k .0)) (k .1))
 
   plain-judges : (t : Hint → Text) → ((h : Hint) → unprintable (t h) ≡ false) → Judges t plain
-  plain-judges t f = record { bad = λ h. told-plain (sortOf h) ∙ sym (f h); blank = λ b h u g. absurd (let z : _≡_ {A = ℕ} 0 1 = cc in omega arith) }
+  plain-judges t f = record { bad = λ h. never-told plain (sortOf h) refl ∙ sym (f h); blank = λ b h u g. absurd (let z : _≡_ {A = ℕ} 0 1 = cc in omega arith) }
 
   pub judged-plain : (first : ℕ) (b : Bool) (seen : Kind) (n : ℕ) (j : Judged) → first ≤ countOf rows → Fine book message rows first b → b ≡ true → j ≡ plain
       → Judges (λ h. eachOf (laterOf book message rows first) rows seen false h n first) j
@@ -372,7 +364,7 @@ module _ (book message rows : List ℕ) where
         → Known book message rows row (record { apart = plain; item = plain })
     seems class.Leaf e f =
         known-leaf book message rows row inside class.Leaf e _ _ _ plain _ refl refl refl refl refl
-        (record { bad = λ s. told-plain s ∙ sym (leaf-never (wordOf rows row 0) s f); blank = λ g. absurd (let z : _≡_ {A = ℕ} 0 1 = cc in omega arith) })
+        (record { bad = λ s. never-told plain s refl ∙ sym (leaf-never (wordOf rows row 0) s f); blank = λ g. absurd (let z : _≡_ {A = ℕ} 0 1 = cc in omega arith) })
     seems class.Format e f =
         known-format book message rows row inside class.Format e _ refl
         (λ c. subst (Judges (λ h. formatOf (laterOf book message rows (row + 1)) rows (row + 1) h (shownSide book rows row c))) (sym (side-alike plain c))

@@ -224,21 +224,6 @@ badOf value.Scalar s = false
 unfoldable pub leafBad : ℕ → Sort → Bool
 leafBad k s = badOf (valueOf k) s
 
--- whether its text has a byte at least under every hint
-unfoldable pub plainOf : Value → Bool
-plainOf value.Nothing = false
-plainOf value.Truth = true
-plainOf value.Unsigned = true
-plainOf value.Signed = true
-plainOf value.Float = false
-plainOf value.Str = false
-plainOf value.Istr = false
-plainOf value.Bytes = true
-plainOf value.Scalar = true
-
-unfoldable pub leafPlain : ℕ → Bool
-leafPlain k = plainOf (valueOf k)
-
 -- whether it is known to be empty whatever the hint is
 unfoldable pub blankOf : Value → Bytes → Bytes → ℕ → ℕ → Bool
 blankOf value.Nothing m b x y = true

@@ -17,13 +17,15 @@ use Rattle.format.specs.declared.hints.Hint.{Hint}
 use Rattle.format.specs.declared.hints.Hint.the-variants as hint
 use Rattle.text.specs.Prints.{Text, unprintable}
 use Rattle.text.specs.Hints.{sortOf}
-use Rattle.text.specs.Leaves.{interned, leafBad, leafPlain, leafBlank}
+use Rattle.text.specs.Leaves.{valueOf, interned, leafBad, leafBlank}
 use Rattle.text.specs.Walk.{countOf, wordOf, classOf}
 use Rattle.text.specs.Text.{isItem, join, inForce, textOf}
 use Rattle.text.specs.declared.hints.Sort.{Sort}
 use Rattle.text.specs.declared.hints.Sort.the-variants as sort
 use Rattle.text.specs.declared.walk.Class.{Class}
 use Rattle.text.specs.declared.walk.Class.the-variants as class
+use Rattle.text.specs.declared.leaves.Value.{Value}
+use Rattle.text.specs.declared.leaves.Value.the-variants as value
 use Rattle.text.specs.declared.places.Looked.{Looked}
 use Rattle.text.specs.declared.places.Looked.the-variants as looked
 use Rattle.text.specs.declared.judging.Judged.{Judged}
@@ -87,7 +89,7 @@ pub record Adds (j : Judged) (x : Hint → Text) (r : Judged) : Type 0 where
 abbrev pub empty : Judged
 empty = record { other = false; quoted = false; debugged = false; blank = true }
 
--- a text that is NOPRINT under no hint, and not known to be empty
+-- a plain text: NOPRINT under no hint, and not known to be empty
 abbrev pub plain : Judged
 plain = record { other = false; quoted = false; debugged = false; blank = false }
 
@@ -157,11 +159,26 @@ pub record SetMarks (old : Bytes) (row : ℕ) (s : Sides) (new : Bytes) : Type 0
 abbrev pub never : Judged → Bool
 never j = not (j .other) && not (j .quoted) && not (j .debugged)
 
--- is that all that is judged of a text?
+-- is a text plain?
 abbrev pub isPlain : Judged → Bool
 isPlain j = never j && not (j .blank)
 
--- a row that has a text of its own under every hint, or shows rows that all have
+-- the values whose texts are plain, whatever their words are
+unfoldable pub plainOf : Value → Bool
+plainOf value.Nothing = false
+plainOf value.Truth = true
+plainOf value.Unsigned = true
+plainOf value.Signed = true
+plainOf value.Float = false
+plainOf value.Str = false
+plainOf value.Istr = false
+plainOf value.Bytes = true
+plainOf value.Scalar = true
+
+unfoldable pub leafPlain : ℕ → Bool
+leafPlain k = plainOf (valueOf k)
+
+-- is a row seen to be plain by its class and its kind, by whether all rows behind it are, and by how many rows are below it?
 abbrev pub seemsBy : Class → ℕ → Bool → ℕ → Bool
 seemsBy class.Leaf kind behind below = leafPlain kind
 seemsBy class.Format kind behind below = behind && ltb 0 below

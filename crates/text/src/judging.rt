@@ -28,7 +28,6 @@ ghost use lib.ListN.{length};
 ghost use Rattle.answer.specs.declared.Verdict.the-variants.{Ok};
 ghost use Rattle.book.specs.Book.{checked};
 ghost use Rattle.format.specs.Grammar.{counterAfter};
-ghost use Rattle.format.specs.declared.types.Kind.the-variants as kind;
 ghost use Rattle.text.specs.Prints.{unprintable};
 ghost use Rattle.text.specs.Walk.{countOf, wordOf, childOf, classOf};
 ghost use Rattle.text.specs.Text.{isItem, formatFrom, formatOf, eachOf, byteOf, bytesOf, listOf, laterOf, textOf};
@@ -90,7 +89,7 @@ fn not_blank(j: Judged) -> Judged
     }
 }
 
-// A text that is NOPRINT under no hint, and not known to be empty.
+// A plain text: NOPRINT under no hint, and not known to be empty.
 fn always_shown() -> Judged
     ensures { λ r. ⌜ r ≡ plain ⌝ }
 {
@@ -379,26 +378,8 @@ fn judge_leaf(message: &[u8], book: &[u8], kind: u64, a: u64, b: u64) -> Judged
     }
 }
 
-// The elements of a list, which are not walked where all rows from the first on are plain.
-fn judge_elements(
-    book: &[u8],
-    message: &[u8],
-    rows: &[u64],
-    marks: &[u8],
-    first: usize,
-    n: u64,
-    plain: bool,
-) -> Judged
-    requires { ⌜ Ready (now book) (now message) (now rows) (now marks) first × (first ≤ countOf (now rows)) × Fine (now book) (now message) (now rows) first plain ⌝ }
-    ensures { λ r. ⌜ Judges (λ h. eachOf (laterOf (now (book .entry)) (now (message .entry)) (now (rows .entry)) first) (now (rows .entry)) kind.Format false h n first) r ⌝ }
-{
-    if plain {
-        return always_shown();
-    }
-    judge_each(book, message, rows, marks, first, Kind::Format, n)
-}
-
-// A list is never blank, for its brackets; with `a` it may be a byte string.
+// A list is never blank, for its brackets; with `a` it may be a byte string. Its elements are not walked where all rows from the first on are
+// plain.
 fn judge_list(
     book: &[u8],
     message: &[u8],
@@ -411,7 +392,10 @@ fn judge_list(
     requires { ⌜ Ready (now book) (now message) (now rows) (now marks) first × (first ≤ countOf (now rows)) × Fine (now book) (now message) (now rows) first plain ⌝ }
     ensures { λ r. ⌜ Judges (λ h. listOf (laterOf (now (book .entry)) (now (message .entry)) (now (rows .entry)) first) (now (book .entry)) (now (rows .entry)) h n first) r ⌝ }
 {
-    let j = judge_elements(book, message, rows, marks, first, n, plain);
+    let mut j = always_shown();
+    if !plain {
+        j = judge_each(book, message, rows, marks, first, Kind::Format, n);
+    }
     let mut quoted = j.quoted;
     if some_byte(book, rows, n, first) {
         quoted = bad_bytes(rows, n, first);
@@ -537,15 +521,15 @@ fn never_bad(j: Judged) -> bool
     !j.debugged
 }
 
-// Is a text neither NOPRINT under some hint nor known to be empty?
+// Is a text plain?
 fn is_plain(j: Judged) -> bool
     ensures { λ r. ⌜ r ≡ isPlain j ⌝ }
 {
     both(never_bad(j), !j.blank)
 }
 
-// Is a row seen to be plain with no look at its text, where all rows behind it are or are not? One that shows others is, unless it has no row
-// below it, and may be empty.
+// Is a row seen to be plain with no look at its text? `plain` says whether all rows behind it are. One that shows others is then, unless it
+// has no row below it, and may be empty.
 fn seems_plain(rows: &[u64], row: usize, plain: bool) -> bool
     ensures { λ r. ⌜ r ≡ seemsPlain (now (rows .entry)) row plain ⌝ }
 {

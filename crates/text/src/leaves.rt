@@ -20,7 +20,8 @@ ghost use Rattle.book.specs.Book.{checked};
 ghost use Rattle.put.specs.Put.{Put};
 ghost use Rattle.utf8.specs.Utf8.{utf8};
 ghost use Rattle.text.specs.Prints.{Prints, unprintable};
-ghost use Rattle.text.specs.Leaves.{valueOf, bytesBy, named, interned, stringUnder, truth, leafOf, leafBad, leafPlain, leafBlank};
+ghost use Rattle.text.specs.Leaves.{valueOf, bytesBy, named, interned, stringUnder, truth, leafOf, leafBad, leafBlank};
+ghost use Rattle.text.specs.Marks.{leafPlain};
 
 // What a row's kind says that it holds.
 pub enum Value {
@@ -167,7 +168,7 @@ fn is_debug(sort: Sort) -> bool
     }
 }
 
-// Inner: whether such a row has a text of at least one byte under every hint.
+// Inner: whether the text of such a row is plain, whatever its words are.
 pub fn leaf_plain(kind: u64) -> bool
     ensures { λ r. ⌜ r ≡ leafPlain kind ⌝ }
 {

@@ -28,7 +28,7 @@ eights-spec =
     (λ c. omega arith)
     (λ c κs. tt)
     (λ c. c .before .before .before .before .loop .inv .len)
-    (λ c. ((c .before .before .before .before .loop .inv), inr (piece-zero _ ((c .before .before .before .before .before .before .before .args .i) + (c .before .before .before .before .loop .n)) 8 _ (c .before .has-zero .ensures) ∙ (c .if1 .taken))))
+    (λ c. record { carrying = c .before .before .before .before .loop .inv; stops = inr (piece-zero _ ((c .before .before .before .before .before .before .before .args .i) + (c .before .before .before .before .loop .n)) 8 _ (c .before .has-zero .ensures) ∙ (c .if1 .taken)) })
     (λ c. omega arith)
     (λ c κs. (omega arith, omega arith))
     (λ c. omega arith)
@@ -40,4 +40,4 @@ eights-spec =
     let free = piece-zero (a .args .message .now) at 8 _ (c .before .before .before .before .before .has-zero .ensures) ∙ c .before .before .before .before .if1 .left in
     carrying-piece (a .args .message .now) (a .args .i) (a .args .most) (a .args .o) (a .args .out .now) (l .out) (l .n) (l .inv) (a .pre .0) 8 (omega arith) (a .pre .1) free _ (c .before .before .copy-8 .ensures))
     (λ c. c .before .loop .inv .len)
-    (λ c. (c .before .loop .inv, inl (omega arith))))
+    (λ c. record { carrying = c .before .loop .inv; stops = inl (omega arith) }))

@@ -1,4 +1,4 @@
-use Rattle.text.specs.Leaves.{plainOf}
+use Rattle.text.specs.Marks.{plainOf}
 use Rattle.text.proofs.LeafLaws.{plain-as}
 use borrow.Author.Needs.{needs}
 use mathlib.Core.Path.{sym, _∙_}

@@ -1,8 +1,8 @@
 use Prim.Native.Nat.{_-_}
 use native.Mathlib.Omega.{arith}
 use Rattle.blocks.proofs.Emitting.{Ending, ending-none, ended, going-few, ending-more}
-use Rattle.blocks.proofs.encoding.tail.Statement.{statement}
-use Rattle.blocks.proofs.encoding.tail.Tie as tie
+use Rattle.blocks.proofs.encoding.last_eight.Statement.{statement}
+use Rattle.blocks.proofs.encoding.last_eight.Tie as tie
 
 abbrev Inv-loop : tie.InvT-loop
 Inv-loop message i out₀ o k₀ n₀ going₀ out k n going = Ending message i o out₀ out k n going
@@ -10,8 +10,8 @@ Inv-loop message i out₀ o k₀ n₀ going₀ out k n going = Ending message i 
 abbrev μ-loop : tie.MeasureT-loop
 μ-loop message i out₀ o k₀ n₀ going₀ out k n going = 8 - k
 
-pub tail-spec : {M : Type 1} → statement M
-tail-spec =
+pub last-eight-spec : {M : Type 1} → statement M
+last-eight-spec =
     tie.close
     (tie.spec
     Inv-loop
