@@ -1,16 +1,20 @@
 -- Where the first lines of a checked book end, and its clock. Assumes nothing.
-use Prim.Native.Nat.{ℕ, _+_, _-_}
+use Prim.Native.Nat.{ℕ, _+_, _-_, _<_, _≤_}
 use mathlib.Core.Path.{_≡_, refl, sym, ap, ap₂, _∙_}
 use mathlib.Core.Bool.{Bool, true, false}
+use mathlib.Core.Logic.{inl, inr}
+use mathlib.Core.List.{_∷_}
 use native.Mathlib.Omega.{arith}
-use lib.ListN.{length}
+use lib.ListN.{length, getD}
 use Rattle.answer.specs.declared.Verdict.the-variants.{Ok}
 use Rattle.parts.specs.Parts.{Bytes, bytes, part, same}
-use Rattle.parts.proofs.Places.{part-length}
+use Rattle.parts.proofs.Places.{byte-is, part-length}
+use Rattle.parts.proofs.Names.{same-equal}
 use Rattle.book.specs.Book.{checked, timed, timedIn, clock}
 use Rattle.book.specs.Steps.{lineEnd}
 use Rattle.book.specs.declared.Clock.the-variants as time
 use Rattle.book.proofs.Ends.{end-on}
+use Rattle.book.proofs.Fields.{part-first}
 use Rattle.book.proofs.Tops.{Topped, ticking}
 use Rattle.book.proofs.Verdicts.{is-checked}
 
@@ -20,44 +24,72 @@ clock-as s c = ap timedIn (is-checked s c .is)
 
 module _ (s : Bytes) (c : checked s ≡ Ok) where
   -- where the first lines end
-  pub top : Topped s (is-checked s c .book .clock) (is-checked s c .stop)
+  top : Topped s (is-checked s c .book .clock) (is-checked s c .stop)
   top = is-checked s c .topped
 
-  pub second-line : {a : ℕ} → a ≡ lineEnd s 0 + 1 → a ≡ top .one + 1
-  second-line p = p ∙ ap (λ (x : ℕ). x + 1) (sym (top .ends .0))
+  first-end : top .one ≡ 6
+  first-end =
+      let l : length (part s 5 (top .one)) ≡ 1 = ap length (same-equal _ _ (top .edition)) in
+      omega (arith, top .order .0, top .order .1, top .order .2, top .inside, l, part-length s 5 (top .one) (top .order .0) (omega (arith, top .order .1, top .order .2, top .inside)))
 
-  pub third-line : {a b : ℕ} → a ≡ lineEnd s 0 + 1 → b ≡ lineEnd s a + 1 → b ≡ top .two + 1
-  third-line p q = q ∙ ap (λ (x : ℕ). lineEnd s x + 1) (second-line p) ∙ ap (λ (x : ℕ). x + 1) (sym (top .ends .1))
+  -- the clock's value
+  abbrev says : Bytes
+  says = part s (top .one + 1 + 6) (top .two)
 
-  pub last-end : {a b d : ℕ} → a ≡ lineEnd s 0 + 1 → b ≡ lineEnd s a + 1 → d ≡ lineEnd s b → d ≡ is-checked s c .stop
-  last-end p q r = r ∙ ap (lineEnd s) (third-line p q) ∙ sym (top .ends .2)
+  value : (v : Bytes) → same says v ≡ true → part s 13 (top .two) ≡ v
+  value v h =
+      let e : 13 ≡ top .one + 1 + 6 = omega (arith, first-end) in
+      ap (λ (x : ℕ). part s x (top .two)) e ∙ same-equal _ _ h
 
-  -- the same, looked for from behind its key
-  pub text-end : {a b d : ℕ} → a ≡ lineEnd s 0 + 1 → b ≡ lineEnd s a + 1 → d ≡ lineEnd s (b + 10) → d ≡ lineEnd s b
-  text-end {a} {b} p q r = r ∙ end-on s b 10 (let o = top .order .2 in let z : lineEnd s b ≡ is-checked s c .stop = last-end p q refl in omega (arith, third-line p q))
+  ends : {n : ℕ} (v : Bytes) → length v ≡ n → part s 13 (top .two) ≡ v → top .two ≡ 13 + n
+  ends {n} v l h =
+      let e : length (part s 13 (top .two)) ≡ n = ap length h ∙ l in
+      omega (arith, first-end, top .order .1, top .order .2, top .inside, e, part-length s 13 (top .two) (omega (arith, first-end, top .order .1)) (omega (arith, top .order .2, top .inside)))
 
-  module _ (b : Bool) (f : b ≡ same (part s (top .one + 1 + 6) (top .two)) (bytes "yes")) where
-    ticks : clock s ≡ timed (ticking b (record { start = top .two + 1 + 10; text = part s (top .two + 1 + 10) (is-checked s c .stop) }))
-    ticks = clock-as s c ∙ ap timed (top .clock ∙ ap (λ (x : Bool). ticking x (record { start = top .two + 1 + 10; text = part s (top .two + 1 + 10) (is-checked s c .stop) })) (sym f))
+  begins-with : (n : ℕ) (v : Bytes) → 13 < top .two → part s 13 (top .two) ≡ n ∷ v → getD s 13 0 ≡ n
+  begins-with n v l h = byte-is s 13 ∙ part-first s 13 (top .two) n v l h
 
-    pub clock-no : b ≡ false → time.No ≡ clock s
-    clock-no g = sym (ticks ∙ ap (λ (x : Bool). timed (ticking x (record { start = top .two + 1 + 10; text = part s (top .two + 1 + 10) (is-checked s c .stop) }))) g)
+  pub clock-inside : 13 < length s
+  clock-inside = omega (arith, first-end, top .order .1, top .order .2, top .inside)
 
-    pub clock-yes : b ≡ true → time.At (top .two + 1 + 10) (is-checked s c .stop - (top .two + 1 + 10)) ≡ clock s
-    clock-yes g =
-        let i = top .inside in
-        let n : length (part s (top .two + 1 + 10) (is-checked s c .stop)) ≡ is-checked s c .stop - (top .two + 1 + 10) = part-length s (top .two + 1 + 10) (is-checked s c .stop) (top .order .2) (omega arith) in
-        sym (ticks ∙ ap (λ (x : Bool). timed (ticking x (record { start = top .two + 1 + 10; text = part s (top .two + 1 + 10) (is-checked s c .stop) }))) g ∙ ap (time.At (top .two + 1 + 10)) n)
+  letter-yes : same says (bytes "yes") ≡ true → getD s 13 0 ≡ 121
+  letter-yes y = begins-with 121 (bytes "es") (omega (arith, ends (bytes "yes") refl (value (bytes "yes") y))) (value (bytes "yes") y)
 
-  -- what `clock_of` compares and answers
-  module _ {a b : ℕ} (p : a ≡ lineEnd s 0 + 1) (q : b ≡ lineEnd s a + 1) {y : Bool} (f : y ≡ same (part s (a + 6) (b - 1)) (bytes "yes")) where
-    pub clock-bit : y ≡ same (part s (top .one + 1 + 6) (top .two)) (bytes "yes")
-    clock-bit =
-        let u : a + 6 ≡ top .one + 1 + 6 = omega (arith, second-line p) in
-        let v : b - 1 ≡ top .two = omega (arith, third-line p q) in
-        f ∙ ap (λ (x : ℕ). same (part s x (b - 1)) (bytes "yes")) u ∙ ap (λ (x : ℕ). same (part s (top .one + 1 + 6) x) (bytes "yes")) v
+  letter-no : same says (bytes "no") ≡ true → getD s 13 0 ≡ 110
+  letter-no n = begins-with 110 (bytes "o") (omega (arith, ends (bytes "no") refl (value (bytes "no") n))) (value (bytes "no") n)
 
-    pub clock-found : y ≡ true → {d : ℕ} → d ≡ lineEnd s b → time.At (b + 10) (d - (b + 10)) ≡ clock s
-    clock-found g {d} r =
-        let u : b + 10 ≡ top .two + 1 + 10 = omega (arith, third-line p q) in
-        ap₂ time.At u (ap₂ _-_ (last-end p q r) u) ∙ clock-yes y clock-bit g
+  -- the first letter of the clock's value tells it
+  said-yes : getD s 13 0 ≡ 121 → same says (bytes "yes") ≡ true
+  said-yes g = elim (top .either) [ inl y ↦ y | inr n ↦ absurd (omega (arith, g, letter-no n)) ]
+
+  said-no : (getD s 13 0 ≡ 121 → ⊥) → same says (bytes "yes") ≡ false
+  unfolding same
+  said-no g = elim (top .either) [ inl y ↦ absurd (g (letter-yes y)) | inr n ↦ ap (λ (u : Bytes). same u (bytes "yes")) (same-equal says (bytes "no") n) ]
+
+  ticks : {b : Bool} → same says (bytes "yes") ≡ b → clock s ≡ timed (ticking b (record { start = top .two + 1 + 10; text = part s (top .two + 1 + 10) (is-checked s c .stop) }))
+  ticks f = clock-as s c ∙ ap timed (top .clock ∙ ap (λ (x : Bool). ticking x (record { start = top .two + 1 + 10; text = part s (top .two + 1 + 10) (is-checked s c .stop) })) f)
+
+  pub clock-no : (getD s 13 0 ≡ 121 → ⊥) → time.No ≡ clock s
+  clock-no g = sym (ticks (said-no g))
+
+  module _ (g : getD s 13 0 ≡ 121) where
+    second-end : top .two ≡ 16
+    second-end = ends (bytes "yes") refl (value (bytes "yes") (said-yes g))
+
+    pub stamp-inside : 27 ≤ length s
+    stamp-inside = omega (arith, second-end, top .order .2, top .inside)
+
+    module _ {d : ℕ} (r : d ≡ lineEnd s 27) where
+      stamp-end : d ≡ is-checked s c .stop
+      stamp-end =
+          let z : lineEnd s 17 ≡ is-checked s c .stop = let e : 17 ≡ top .two + 1 = omega (arith, second-end) in ap (lineEnd s) e ∙ sym (top .ends .2) in
+          r ∙ end-on s 17 10 (omega (arith, z, second-end, top .order .2)) ∙ z
+
+      pub stamp-after : 27 ≤ d
+      stamp-after = omega (arith, stamp-end, second-end, top .order .2)
+
+      pub clock-found : time.At 27 (d - 27) ≡ clock s
+      clock-found =
+          let u : 27 ≡ top .two + 1 + 10 = omega (arith, second-end) in
+          let n : length (part s (top .two + 1 + 10) (is-checked s c .stop)) ≡ is-checked s c .stop - (top .two + 1 + 10) = part-length s (top .two + 1 + 10) (is-checked s c .stop) (top .order .2) (omega (arith, top .inside)) in
+          ap₂ time.At u (ap₂ _-_ stamp-end u) ∙ sym (ticks (said-yes g) ∙ ap (time.At (top .two + 1 + 10)) n)

@@ -80,15 +80,19 @@ drop-part s at stop k =
     let p : stop - at - k ≡ stop - (at + k) = omega arith in
     drop-take k (stop - at) (drop at s) ∙ ap₂ take p (drop-drop k at s)
 
--- a line that begins with a name begins with its first letter
-pub first-letter : (s : Bytes) (at stop n : ℕ) (ns : Bytes) → at < stop → begins (n ∷ ns) (part s at stop) ≡ true → byte s at ≡ n
+-- the first byte of a part
+pub part-first : (s : Bytes) (at stop n : ℕ) (ns : Bytes) → at < stop → part s at stop ≡ n ∷ ns → byte s at ≡ n
 unfolding part byte
-first-letter s at stop n ns h e =
+part-first s at stop n ns h e =
     let p : at ≡ at + 0 = omega arith in
     ap (λ (k : ℕ). getD s k 0) p
     ∙ sym (getD-drop at s 0 0)
     ∙ sym (getD-take (stop - at) (drop at s) 0 0 (omega arith))
-    ∙ ap (λ (u : Bytes). getD u 0 0) (begins-split (n ∷ ns) (take (stop - at) (drop at s)) e)
+    ∙ ap (λ (u : Bytes). getD u 0 0) e
+
+-- a line that begins with a name begins with its first letter
+pub first-letter : (s : Bytes) (at stop n : ℕ) (ns : Bytes) → at < stop → begins (n ∷ ns) (part s at stop) ≡ true → byte s at ≡ n
+first-letter s at stop n ns h e = part-first s at stop n _ h (begins-split (n ∷ ns) (part s at stop) e)
 
 -- the line at a place has the key, and its value goes from start to stop
 pub record Stands (s : Bytes) (at : ℕ) (key : Bytes) (start stop : ℕ) : Type 0 where

@@ -1,6 +1,7 @@
 -- The first three lines: what the judging of them says of the book. Assumes nothing.
 use Prim.Native.Nat.{ℕ, _+_, _-_, _<_, _≤_}
 use mathlib.Core.Path.{_≡_, refl, sym, ap, _∙_, subst}
+use mathlib.Core.Logic.{_⊎_, inl, inr}
 use mathlib.Core.Bool.{Bool, true, false}
 use mathlib.Core.Option.{Option, none, some}
 use mathlib.Core.List.{List, [], _∷_}
@@ -56,6 +57,8 @@ module _ (v : Values) where
 
 -- what is known of first lines that were judged
 pub record Stamped (v : Values) (t : Option Part) : Type 0 where
+  pub edition : same (v .first .text) (bytes "1") ≡ true
+  pub either : (same (v .second .text) (bytes "yes") ≡ true) ⊎ (same (v .second .text) (bytes "no") ≡ true)
   pub good : isText (v .third .text) ≡ true
   pub clock : t ≡ ticking (same (v .second .text) (bytes "yes")) (v .third)
 
@@ -64,10 +67,10 @@ stamped v t q =
     by-test (isText (v .third .text))
     (λ f. by-test (same (v .first .text) (bytes "1"))
     (λ e. by-test (same (v .second .text) (bytes "yes"))
-    (λ g. let z : some (some (v .third)) ≡ some t = sym (stamp-yes v e f g) ∙ q in record { good = f; clock = rw g cc })
+    (λ g. let z : some (some (v .third)) ≡ some t = sym (stamp-yes v e f g) ∙ q in record { edition = e; either = inl g; good = f; clock = rw g cc })
     (λ g. by-test (same (v .second .text) (bytes "no"))
     (λ h. by-test (eqb (length (v .third .text)) 0)
-    (λ k. let z : some none ≡ some t = sym (stamp-no v e f g h (eqb-true _ _ k)) ∙ q in record { good = f; clock = rw g cc })
+    (λ k. let z : some none ≡ some t = sym (stamp-no v e f g h (eqb-true _ _ k)) ∙ q in record { edition = e; either = inr h; good = f; clock = rw g cc })
     (λ k. no-some (sym (stamp-full v e f g h (positive _ (eqb-false _ _ k))) ∙ q)))
     (λ h. no-some (sym (stamp-neither v e f g h) ∙ q))))
     (λ e. no-some (sym (stamp-edition v e) ∙ q)))
@@ -118,6 +121,8 @@ pub record Topped (s : Bytes) (t : Option Part) (stop : ℕ) : Type 0 where
   pub order : (5 ≤ one) × (one + 1 + 6 ≤ two) × (two + 1 + 10 ≤ stop)
   pub inside : stop < length s
   pub letters : (byte s (one + 1) ≡ 99) × (byte s (two + 1) ≡ 116)
+  pub edition : same (part s 5 one) (bytes "1") ≡ true
+  pub either : (same (part s (one + 1 + 6) two) (bytes "yes") ≡ true) ⊎ (same (part s (one + 1 + 6) two) (bytes "no") ≡ true)
   pub clock : t ≡ ticking (same (part s (one + 1 + 6) two) (bytes "yes")) (record { start = two + 1 + 10; text = part s (two + 1 + 10) stop })
   pub good : isText (part s (two + 1 + 10) stop) ≡ true
   pub rest : bookOf s ≡ (from s (stop + 1) 0 then λ es. some (record { clock = t; entries = es }))
@@ -182,6 +187,8 @@ module _ (s : Bytes) where
           order = (omega arith, omega arith, omega arith);
           inside = w .inside;
           letters = (first-letter s (b + 1) d 99 (bytes "lock=") (omega arith) (w .keyed .1), first-letter s (d + 1) f 116 (bytes "imestamp=") (omega arith) (w .keyed .2));
+          edition = rw (sym i) (k .edition);
+          either = rw (sym j) (k .either);
           clock = rw (sym j, sym m) (k .clock);
           good = rw (sym m) (k .good);
           rest = ap book (w .first) ∙ book-as (w .line1) (w .line2) (w .line3) _ _ (w .reads) o q;

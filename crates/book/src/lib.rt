@@ -20,7 +20,6 @@ use guess::ahead;
 use guess::past;
 use guess::place;
 use lines::line_end;
-use lines::next_line;
 use sides::Side;
 use sides::side_of;
 ghost use mathlib.Core.Path.{_≡_};
@@ -62,16 +61,18 @@ pub fn check(book: &[u8]) -> Verdict
     Verdict::Ok
 }
 
+// Where the value of the second line stands, for all books have a first line of 7 bytes; and the timestamp's text, where that value is `yes`.
+const CLOCK: usize = 13;
+
+const STAMP: usize = 27;
+
 // Inner: the timestamp's text, where a checked book has a clock.
 pub fn clock_of(book: &[u8]) -> Clock
     requires { ⌜ checked (now book) ≡ Ok ⌝ }
     ensures { λ r. ⌜ r ≡ clock (now (book .entry)) ⌝ }
 {
-    let second = next_line(book, 0);
-    let third = next_line(book, second);
-    if parts::same(&book[second + 6..third - 1], b"yes") {
-        let start = third + 10;
-        return Clock::At(start, line_end(book, start) - start);
+    if book[CLOCK] == b'y' {
+        return Clock::At(STAMP, line_end(book, STAMP) - STAMP);
     }
     Clock::No
 }

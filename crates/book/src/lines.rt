@@ -52,14 +52,6 @@ pub fn line_end(book: &[u8], at: usize) -> usize
     parts::next_byte(book, i, 10)
 }
 
-// Inner: where the line after the one at a place starts.
-pub fn next_line(book: &[u8], at: usize) -> usize
-    requires { ⌜ at ≤ length (now book) ⌝ }
-    ensures { λ r. ⌜ r ≡ lineEnd (now (book .entry)) at + 1 ⌝ }
-{
-    line_end(book, at) + 1
-}
-
 // Inner: the value of the line at a place, if it is closed and has the key.
 pub fn field_at(book: &[u8], at: usize, key: &[u8]) -> Field
     requires { ⌜ at ≤ length (now book) ⌝ }

@@ -11,8 +11,8 @@ use borrow.Author.Tests.{ne-eqb, eq-eqb, eqb-false, eqb-true, not-true, not-fals
 use lib.ListN.{length, set, take, drop, replicate, length-set, length-drop, drop-of-length-le}
 use lib.Seq.{set-split, drop-at, append-snoc, length-take-le, take-all}
 use Rattle.put.specs.Put.{Bytes}
-use Rattle.put.specs.Numbers.{wide, glyph, significant, number, padded, baseOf}
-use Rattle.put.specs.Steps.{Stands}
+use Rattle.put.specs.Numbers.{wide, glyph, significant, number, padded, baseOf, upperOf}
+use Rattle.put.specs.Steps.{isShort, Stands}
 use Rattle.put.proofs.Writes.{by-order}
 use Rattle.put.specs.declared.numbers.Base.{Base}
 use Rattle.put.specs.declared.numbers.Base.the-variants.{Binary, Octal, Decimal, Lower, Upper}
@@ -24,6 +24,9 @@ wide-lt low high hl hh = rw (add-comm low) (digits-lt {m = 2 ^ 64} {c = 2 ^ 64} 
 
 pub wide-zero : (n : ℕ) → wide n 0 ≡ n
 wide-zero n = omega arith
+
+pub word-lt : (n : ℕ) → n < 2 ^ 64 → n < 2 ^ 128
+word-lt n h = subst (λ (m : ℕ). m < 2 ^ 128) (wide-zero n) (wide-lt n 0 h (omega arith))
 
 pub wide-eqb : (low high : ℕ) → low ≡ 0 → eqb high 0 ≡ eqb (wide low high) 0
 wide-eqb low high e = by-order high 0 (λ h. none h) (λ h. some h)
@@ -122,6 +125,21 @@ filled-next {b} {u} {m} {buf} k {n} {n′} hb h ex ed en f =
     let e : k ≡ suc (k - 1) = (let p = room k h f in omega arith) in
     subst (λ (i : ℕ). Filled b u m (set buf (k - 1) i) (k - 1) n′) (sym (ex ∙ ap (glyph u) ed))
     (subst (λ (i : ℕ). Filled b u m (set buf (k - 1) (glyph u (n % b))) (k - 1) i) (sym en) (more (k - 1) hb h (subst (λ (i : ℕ). Filled b u m buf i n) e f)))
+
+-- a short number, as the code writes it
+short-is : (high : ℕ) (b : Base) → isShort high b ≡ true → (baseOf b ≡ 10) × (upperOf b ≡ false) × (high ≡ 0)
+short-is high Binary e = absurd (let z : _≡_ {A = ℕ} 0 1 = cc in omega arith)
+short-is high Octal e = absurd (let z : _≡_ {A = ℕ} 0 1 = cc in omega arith)
+short-is high Decimal e = (refl, refl, eqb-true high 0 e)
+short-is high Lower e = absurd (let z : _≡_ {A = ℕ} 0 1 = cc in omega arith)
+short-is high Upper e = absurd (let z : _≡_ {A = ℕ} 0 1 = cc in omega arith)
+
+pub short-stands : {buf : Bytes} {k : ℕ} (low high : ℕ) (b : Base) (y : Bool) → y ≡ isShort high b → y ≡ true → Stands buf k (significant 10 false 128 low)
+    → Stands buf k (significant (baseOf b) (upperOf b) 128 (wide low high))
+short-stands {buf} {k} low high b y ey e s =
+    let h = short-is high b (sym ey ∙ e) in
+    let w : low ≡ wide low high = sym (ap (wide low) (h .2) ∙ wide-zero low) in
+    subst (λ (t : Bytes). Stands buf k t) (λ i. significant (sym (h .0) i) (sym (h .1) i) 128 (w i)) s
 
 -- zeros, and then what stands in the buffer, are the number
 pub number-stands : {buf : Bytes} (b : ℕ) (u : Bool) (m k z w : ℕ) → Stands buf k (significant b u 128 m) → z ≡ max w 1 - (128 - k) → replicate z 48 ++ take (128 - k) (drop k buf) ≡ number b u w m

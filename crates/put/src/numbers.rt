@@ -13,7 +13,7 @@ ghost use lib.ListN.{length};
 ghost use Rattle.put.specs.Put.{Put};
 ghost use Rattle.put.specs.Numbers.{wide, significant, number, baseOf, upperOf, prefix, unsigned, magnitude, sign, fronted, bitsOf, signed};
 ghost use Rattle.put.specs.Numbers.{glyph as glyphOf};
-ghost use Rattle.put.specs.Steps.{divisorOf, Stands};
+ghost use Rattle.put.specs.Steps.{divisorOf, isShort, Stands};
 
 pub enum Base {
     Binary,
@@ -88,8 +88,36 @@ pub fn is_zero(low: u64, high: u64) -> bool
     if low == 0 { high == 0 } else { false }
 }
 
-// Puts the digits of a number at the end of a buffer, none for 0, and answers where they start.
-fn fill(buf: &mut [u8; 128], low: u64, high: u64, base: Base) -> usize
+// Is a number one of one word, in decimal?
+fn is_short(high: u64, base: Base) -> bool
+    ensures { λ r. ⌜ r ≡ isShort high base ⌝ }
+{
+    match base {
+        Base::Binary => false,
+        Base::Octal => false,
+        Base::Decimal => high == 0,
+        Base::Lower => false,
+        Base::Upper => false,
+    }
+}
+
+// Puts the digits of such a number at the end of a buffer, none for 0, and answers where they start. Most numbers are such.
+fn fill_short(buf: &mut [u8; 128], n: u64) -> usize
+    requires { ⌜ length (now buf) ≡ 128 ⌝ }
+    ensures { λ r. ⌜ Stands (now (buf .exit)) r (significant 10 false 128 n) ⌝ }
+{
+    let mut k = 128;
+    let mut left = n;
+    while 0 < left {
+        k -= 1;
+        buf[k] = glyph(left % 10, false);
+        left /= 10;
+    }
+    k
+}
+
+// The same for any number.
+fn fill_wide(buf: &mut [u8; 128], low: u64, high: u64, base: Base) -> usize
     requires { ⌜ length (now buf) ≡ 128 ⌝ }
     ensures { λ r. ⌜ Stands (now (buf .exit)) r (significant (baseOf base) (upperOf base) 128 (wide low high)) ⌝ }
 {
@@ -106,6 +134,17 @@ fn fill(buf: &mut [u8; 128], low: u64, high: u64, base: Base) -> usize
         hi = d.high;
     }
     k
+}
+
+// The same, the short way where there is one.
+fn fill(buf: &mut [u8; 128], low: u64, high: u64, base: Base) -> usize
+    requires { ⌜ length (now buf) ≡ 128 ⌝ }
+    ensures { λ r. ⌜ Stands (now (buf .exit)) r (significant (baseOf base) (upperOf base) 128 (wide low high)) ⌝ }
+{
+    if is_short(high, base) {
+        return fill_short(buf, low);
+    }
+    fill_wide(buf, low, high, base)
 }
 
 // How many zeros stand before `have` digits in a number of at least `width` digits, and of at least one.
