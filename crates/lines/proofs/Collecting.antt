@@ -1,5 +1,5 @@
 -- The loops over messages: what a turn does to what is written and to what there is still to take, and why the turns come to an end.
-use Prim.Native.Nat.{ℕ, suc, _+_, _≤_, _<_}
+use Prim.Native.Nat.{ℕ, suc, _+_, _-_, _≤_, _<_}
 use mathlib.Core.Path.{_≡_, refl, sym, ap, _∙_, subst}
 use mathlib.Core.Bool.{Bool, true, false, cond}
 use mathlib.Core.List.{List, [], _++_, append-nil}
@@ -10,10 +10,12 @@ use borrow.Author.Tests.{leb-true}
 use Rattle.answer.specs.Answer.{Bytes}
 use Rattle.put.specs.Put.{written}
 use Rattle.put.proofs.Writes.{written-append}
+use Rattle.stream.specs.Inner.{stateFrom, storeFrom}
 use Rattle.stream.specs.declared.Stream.{Stream}
 use Rattle.stream.proofs.Marks.{by-test}
+use Rattle.stream.proofs.Onward.{from-start}
 use Rattle.lines.specs.Lines.{Desk, deskOf, tookOf, around, lineFits, All, rests, headed, takenAll}
-use Rattle.lines.specs.Steps.{Takes, TakesAll}
+use Rattle.lines.specs.Steps.{deskFrom, Takes, TakesAll}
 use Rattle.lines.specs.declared.Turn.{Turn}
 use Rattle.lines.specs.declared.Collected.{Collected}
 use Rattle.lines.proofs.Lengths.{took-le}
@@ -38,7 +40,7 @@ unfolding written
 written-nothing old at =
     ap (λ k. take at old ++ [] ++ drop k old) (add-zero at) ∙ ap (λ l. l ++ drop at old) (append-nil (take at old)) ∙ take-append-drop at old
 
-pub taking-none : (book out : Bytes) (at : ℕ) (d : Desk) → Taking book (takenAll book (length out) at d) out at d out at true
+taking-none : (book out : Bytes) (at : ℕ) (d : Desk) → Taking book (takenAll book (length out) at d) out at d out at true
 unfolding ahead
 taking-none book out at d = record {
   done = [];
@@ -47,6 +49,12 @@ taking-none book out at d = record {
   output = sym (written-nothing out at);
   whole = refl;
 }
+
+pub taking-start : (book : Bytes) (s : Stream) (store message : Bytes) (rows : List ℕ) (text out : Bytes) (at : ℕ)
+    → Taking book (takenAll book (length out) at (deskOf s store message rows text)) out at (deskFrom s store 0 message rows text) out at true
+taking-start book s store message rows text out at =
+    subst (λ (x : Stream). Taking book (takenAll book (length out) at (deskOf s store message rows text)) out at (deskOf x store message rows text) out at true) (sym (from-start s))
+    (taking-none book out at (deskOf s store message rows text))
 
 -- as the loop's test says that it goes on
 pub going : {book : Bytes} {a : All} {out₀ : Bytes} {at : ℕ} {d : Desk} {out : Bytes} {end : ℕ} {goes : Bool} → goes ≡ true
@@ -64,14 +72,14 @@ taken-step book size at d f = by-test (tookOf book d .goes) (λ g. taken-on book
         ≡ headed (tookOf book d .line) (ahead book size (at + length (tookOf book d .line)) (tookOf book d .desk) (tookOf book d .goes))
     on g = ap (λ b. headed (tookOf book d .line) (ahead book size (at + length (tookOf book d .line)) (tookOf book d .desk) b)) (sym g)
 
-module _ {book : Bytes} {a : All} {out₀ : Bytes} {at : ℕ} {s : Stream} {store message : Bytes} {rows : List ℕ} {text out : Bytes} {end : ℕ} where
-  module _ {t : Turn} {store′ message′ : Bytes} {rows′ : List ℕ} {text′ out′ : Bytes} where
-    pub taking-turn : Taking book a out₀ at (deskOf s store message rows text) out end true → lineFits (length out) end (length text) ≡ true
-        → Takes (tookOf book (deskOf s store message rows text)) out end t store′ message′ rows′ text′ out′
-        → Taking book a out₀ at (deskOf (t .stream) store′ message′ rows′ text′) out′ (t .at) (t .goes)
+module _ {book : Bytes} {a : All} {out₀ : Bytes} {at : ℕ} (s : Stream) (store : Bytes) (from : ℕ) {message : Bytes} {rows : List ℕ} {text out : Bytes} {end : ℕ} where
+  module _ {t : Turn} {message′ : Bytes} {rows′ : List ℕ} {text′ out′ : Bytes} where
+    pub taking-turn : Taking book a out₀ at (deskFrom s store from message rows text) out end true → lineFits (length out) end (length text) ≡ true
+        → Takes (tookOf book (deskFrom s store from message rows text)) s store out end t message′ rows′ text′ out′
+        → Taking book a out₀ at (deskFrom s store (t .from) message′ rows′ text′) out′ (t .at) (t .goes)
     unfolding ahead lineFits
     taking-turn w f p =
-        let d = deskOf s store message rows text in
+        let d = deskFrom s store from message rows text in
         let k = leb-true (end + (length text + around)) (length out) f in
         let l = took-le book d in
         let e = w .place in
@@ -93,37 +101,38 @@ module _ {book : Bytes} {a : All} {out₀ : Bytes} {at : ℕ} {s : Stream} {stor
         }
 
     -- the loop's measure: the held bytes, and one for a turn that is to come
-    pub taking-less : {goes : Bool} → goes ≡ true → Taking book a out₀ at (deskOf s store message rows text) out end goes
-        → Takes (tookOf book (deskOf s store message rows text)) out end t store′ message′ rows′ text′ out′
-        → cond (t .goes) (suc (t .stream .held)) 0 < cond goes (suc (s .held)) 0
+    pub taking-less : {goes : Bool} → goes ≡ true → Taking book a out₀ at (deskFrom s store from message rows text) out end goes
+        → Takes (tookOf book (deskFrom s store from message rows text)) s store out end t message′ rows′ text′ out′
+        → cond (t .goes) (suc (s .held - t .from)) 0 < cond goes (suc (s .held - from)) 0
     taking-less g w p =
         rw g (by-test (t .goes)
-        (λ h. let z = took-fewer book (deskOf s store message rows text) (sym (p .goes) ∙ h) in
+        (λ h. let z = took-fewer book (deskFrom s store from message rows text) (sym (p .goes) ∙ h) in
         rw h (omega (arith, ap (λ d. d .stream .held) (p .desk))))
         (λ h. rw h (omega arith)))
 
-  ending : (goes more : Bool) (w : Taking book a out₀ at (deskOf s store message rows text) out end goes)
-      → headed (w .done) (rests more (deskOf s store message rows text)) ≡ a
-      → TakesAll a out₀ at (record { stream = s; at = end; more = more }) store message rows text out
-  ending goes more w e =
-      let l : w .done ≡ a .lines = sym (append-nil (w .done)) ∙ ap (λ b. b .lines) e in
-      record {
-        desk = ap (λ b. b .desk) e;
-        more = ap (λ b. b .more) e;
-        place = w .place ∙ ap (λ k. at + length k) l;
-        output = w .output ∙ ap (written out₀ at) l;
-      }
+  module _ {left : Stream} {moved : Bytes} (u : left ≡ stateFrom s from) (v : moved ≡ storeFrom s store from) where
+    ending : (goes more : Bool) (w : Taking book a out₀ at (deskFrom s store from message rows text) out end goes)
+        → headed (w .done) (rests more (deskFrom s store from message rows text)) ≡ a
+        → TakesAll a out₀ at (record { stream = left; at = end; more = more }) moved message rows text out
+    ending goes more w e =
+        let l : w .done ≡ a .lines = sym (append-nil (w .done)) ∙ ap (λ b. b .lines) e in
+        record {
+          desk = (λ i. deskOf (u i) (v i) message rows text) ∙ ap (λ b. b .desk) e;
+          more = ap (λ b. b .more) e;
+          place = w .place ∙ ap (λ k. at + length k) l;
+          output = w .output ∙ ap (written out₀ at) l;
+        }
 
-  pub taking-full : Taking book a out₀ at (deskOf s store message rows text) out end true → lineFits (length out) end (length text) ≡ false
-      → TakesAll a out₀ at (record { stream = s; at = end; more = true }) store message rows text out
-  unfolding ahead
-  taking-full w f = ending true true w (ap (headed (w .done)) (sym (taken-full book (length out) end (deskOf s store message rows text) f)) ∙ w .whole)
+    pub taking-full : Taking book a out₀ at (deskFrom s store from message rows text) out end true → lineFits (length out) end (length text) ≡ false
+        → TakesAll a out₀ at (record { stream = left; at = end; more = true }) moved message rows text out
+    unfolding ahead
+    taking-full w f = ending true true w (ap (headed (w .done)) (sym (taken-full book (length out) end (deskFrom s store from message rows text) f)) ∙ w .whole)
 
-  pub taking-end : {goes : Bool} → goes ≡ false → Taking book a out₀ at (deskOf s store message rows text) out end goes
-      → TakesAll a out₀ at (record { stream = s; at = end; more = false }) store message rows text out
-  unfolding ahead
-  taking-end {goes} g w =
-      ending goes false w (ap (λ b. headed (w .done) (ahead book (length out) end (deskOf s store message rows text) b)) (sym g) ∙ w .whole)
+    pub taking-end : {goes : Bool} → goes ≡ false → Taking book a out₀ at (deskFrom s store from message rows text) out end goes
+        → TakesAll a out₀ at (record { stream = left; at = end; more = false }) moved message rows text out
+    unfolding ahead
+    taking-end {goes} g w =
+        ending goes false w (ap (λ b. headed (w .done) (ahead book (length out) end (deskFrom s store from message rows text) b)) (sym g) ∙ w .whole)
 
 -- ---- a caller that writes what was collected and calls again, then at the output's start
 

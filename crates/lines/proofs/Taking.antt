@@ -17,9 +17,11 @@ use Rattle.answer.specs.declared.Outcome.the-variants as outcome
 use Rattle.answer.specs.declared.Verdict.the-variants as verdict
 use Rattle.blocks.specs.Blocks.{hasZero, decode}
 use Rattle.blocks.specs.Promises.{decoded, given}
-use Rattle.stream.specs.Calls.{Takes, frame, claims, takeAnswer, takeResult, takeOutput}
+use Rattle.stream.specs.Calls.{frame, claims, takeAnswer, takeResult, takeOutput}
+use Rattle.stream.specs.Inner.{stateFrom, storeFrom, TakesFrom}
 use Rattle.stream.specs.declared.Stream.{Stream}
 use Rattle.stream.specs.declared.Taken.{Taken}
+use Rattle.stream.specs.declared.TakenFrom.{TakenFrom}
 use Rattle.stream.proofs.Results.{claims-cases}
 use Rattle.put.specs.Put.{Put}
 use Rattle.put.proofs.Writes.{put-as}
@@ -33,7 +35,7 @@ use Rattle.text.specs.Answers.{roomed, bytesIn, answerBy, bytesBy, keptBy, Text
 use Rattle.text.specs.declared.Which.{Which}
 use Rattle.text.specs.declared.Which.the-variants as which
 use Rattle.lines.specs.Lines.{refusalLine, textLine, stopLine, outcomeLine, textAnswer, textBytes, textRows, Desk, held, tookBy, tookOf}
-use Rattle.lines.specs.Steps.{PutsMessage}
+use Rattle.lines.specs.Steps.{PutsMessage, deskFrom}
 use Rattle.lines.specs.Steps as steps
 
 pub stop-wait : (r : Refusal) (n : ℕ) → n ≡ numberOf r → n ≡ 3 → [] ≡ stopLine r
@@ -127,47 +129,54 @@ module _ (b m : Bytes) (rows rows′ : List ℕ) (text text′ : Bytes) (r : Out
 
 -- ---- a message is taken
 
-module _ (s : Stream) (store message : Bytes) (x : Taken) (store′ message′ : Bytes) (t : Takes s store message x store′ message′) where
-  pub message-front : (n : ℕ) → x .answer ≡ outcome.Done n → n ≤ length message′
+module _ (s : Stream) (store : Bytes) (from : ℕ) (message : Bytes) (r : TakenFrom) (message′ : Bytes) (t : TakesFrom s store from message r message′) where
+  abbrev s′ : Stream
+  s′ = stateFrom s from
+
+  abbrev store′ : Bytes
+  store′ = storeFrom s store from
+
+  pub message-front : (n : ℕ) → r .answer ≡ outcome.Done n → n ≤ length message′
   unfolding takeResult takeOutput
   message-front n e =
-      let d = sym (ap (λ (y : Taken). y .answer) (t .result)) ∙ e in
-      front n (given (decode (frame s store))) message message′ (take-count s store (length message) n d)
-      (t .output ∙ ap (λ y. after y (given (decode (frame s store))) message) d)
+      let d = sym (ap (λ (y : Taken). y .answer) (t .takes .result)) ∙ e in
+      front n (given (decode (frame s′ store′))) message message′ (take-count s′ store′ (length message) n d)
+      (t .takes .output ∙ ap (λ y. after y (given (decode (frame s′ store′))) message) d)
 
-  pub message-part : (n : ℕ) → x .answer ≡ outcome.Done n → n ≡ length (take n message′)
+  pub message-part : (n : ℕ) → r .answer ≡ outcome.Done n → n ≡ length (take n message′)
   message-part n e = sym (length-take-le n message′ (message-front n e))
 
-module _ (b : Bytes) (s : Stream) (store message : Bytes) (rows : List ℕ) (text : Bytes) where
+module _ (b : Bytes) (s : Stream) (store : Bytes) (from : ℕ) (message : Bytes) (rows : List ℕ) (text : Bytes) where
   abbrev desk : Desk
-  desk = record { stream = s; store = store; message = message; rows = rows; text = text }
+  desk = deskFrom s store from message rows text
 
-  module _ (x : Taken) (store′ message′ : Bytes) (t : Takes s store message x store′ message′) where
-    is : (a : Outcome) → x .answer ≡ a → tookOf b desk ≡ tookBy b desk a
+  module _ (r : TakenFrom) (message′ : Bytes) (t : TakesFrom s store from message r message′) where
+    is : (a : Outcome) → r .answer ≡ a → tookOf b desk ≡ tookBy b desk a
     unfolding tookOf
-    is a e = ap (tookBy b desk) (sym (ap (λ (y : Taken). y .answer) (t .result)) ∙ e)
+    is a e = ap (tookBy b desk) (sym (ap (λ (y : Taken). y .answer) (t .takes .result)) ∙ e)
 
-    pub took-message : (n : ℕ) (rows′ : List ℕ) (text′ out out′ : Bytes) (at q : ℕ) → x .answer ≡ outcome.Done n → PutsMessage b (take n message′) rows rows′ text text′ out at out′ q → steps.Takes (tookOf b desk) out at (record { stream = x .stream; at = q; goes = true }) store′ message′ rows′ text′ out′
+    pub took-message : (n : ℕ) (rows′ : List ℕ) (text′ out out′ : Bytes) (at q : ℕ) → r .answer ≡ outcome.Done n → PutsMessage b (take n message′) rows rows′ text text′ out at out′ q → steps.Takes (tookOf b desk) s store out at (record { from = r .from; at = q; goes = true }) message′ rows′ text′ out′
     took-message n rows′ text′ out out′ at q e p =
-        subst (λ k. steps.Takes k out at (record { stream = x .stream; at = q; goes = true }) store′ message′ rows′ text′ out′) (sym (is (outcome.Done n) e))
-        (by-message message′ (t .output) p)
+        subst (λ k. steps.Takes k s store out at (record { from = r .from; at = q; goes = true }) message′ rows′ text′ out′) (sym (is (outcome.Done n) e))
+        (by-message message′ (t .takes .output) p)
       where
-        by-message : (m : Bytes) → m ≡ held b desk → PutsMessage b (take n m) rows rows′ text text′ out at out′ q → steps.Takes (tookBy b desk (outcome.Done n)) out at (record { stream = x .stream; at = q; goes = true }) store′ m rows′ text′ out′
+        by-message : (m : Bytes) → m ≡ held b desk → PutsMessage b (take n m) rows rows′ text text′ out at out′ q → steps.Takes (tookBy b desk (outcome.Done n)) s store out at (record { from = r .from; at = q; goes = true }) m rows′ text′ out′
         by-message m h p =
             let u = p .work ∙ ap (λ z. textRows b (take n z) rows text) h in
             let v = p .bytes ∙ ap (λ z. textBytes b (take n z) rows text) h in
-            let y = ap (λ (z : Taken). z .stream) (t .result) in
-            let w = t .store in
+            let y = ap (λ (z : Taken). z .stream) (t .takes .result) in
+            let w = t .takes .store in
             record {
+              place = t .place;
               desk = cc;
               goes = refl;
               output = put-as (p .output) (ap (λ z. outcomeLine (textAnswer b (take n z) rows text) (textBytes b (take n z) rows text)) h) refl;
             }
 
-    pub took-refusal : (f : Refusal) (out out′ : Bytes) (at q : ℕ) (k : ℕ) → x .answer ≡ outcome.Refused f → k ≡ numberOf f → Put out at (stopLine f) out′ q → steps.Takes (tookOf b desk) out at (record { stream = x .stream; at = q; goes = eqb k 2 }) store′ message′ rows text out′
+    pub took-refusal : (f : Refusal) (out out′ : Bytes) (at q : ℕ) (k : ℕ) → r .answer ≡ outcome.Refused f → k ≡ numberOf f → Put out at (stopLine f) out′ q → steps.Takes (tookOf b desk) s store out at (record { from = r .from; at = q; goes = eqb k 2 }) message′ rows text out′
     took-refusal f out out′ at q k e n w =
-        subst (λ d. steps.Takes d out at (record { stream = x .stream; at = q; goes = eqb k 2 }) store′ message′ rows text out′) (sym (is (outcome.Refused f) e))
-        (let y = ap (λ (z : Taken). z .stream) (t .result) in
-        let h = t .output in
-        let v = t .store in
-        record { desk = cc; goes = ap (λ z. eqb z 2) n; output = w })
+        subst (λ d. steps.Takes d s store out at (record { from = r .from; at = q; goes = eqb k 2 }) message′ rows text out′) (sym (is (outcome.Refused f) e))
+        (let y = ap (λ (z : Taken). z .stream) (t .takes .result) in
+        let h = t .takes .output in
+        let v = t .takes .store in
+        record { place = t .place; desk = cc; goes = ap (λ z. eqb z 2) n; output = w })

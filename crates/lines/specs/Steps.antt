@@ -5,7 +5,9 @@ use mathlib.Core.List.{List}
 use lib.ListN.{length}
 use Rattle.answer.specs.Answer.{Bytes}
 use Rattle.put.specs.Put.{Put, written}
-use Rattle.lines.specs.Lines.{Gave, textRows, textBytes, textAnswer, outcomeLine, deskOf, Took, All}
+use Rattle.stream.specs.Inner.{stateFrom, storeFrom, Open}
+use Rattle.stream.specs.declared.Stream.{Stream}
+use Rattle.lines.specs.Lines.{Gave, textRows, textBytes, textAnswer, outcomeLine, Desk, deskOf, Took, All}
 use Rattle.lines.specs.declared.Given.{Given}
 use Rattle.lines.specs.declared.Turn.{Turn}
 use Rattle.lines.specs.declared.Collected.{Collected}
@@ -22,9 +24,14 @@ pub record PutsMessage (book message : Bytes) (rows rows′ : List ℕ) (text te
   pub bytes : text′ ≡ textBytes book message rows text
   pub output : Put out at (outcomeLine (textAnswer book message rows text) (textBytes book message rows text)) out′ q
 
+-- the desk of a stream that has left behind all before a place
+abbrev pub deskFrom : Stream → Bytes → ℕ → Bytes → List ℕ → Bytes → Desk
+deskFrom s store from message rows text = deskOf (stateFrom s from) (storeFrom s store from) message rows text
+
 -- One message is taken: the desk, the line and whether there may be more, as t says.
-pub record Takes (t : Took) (out : Bytes) (at : ℕ) (r : Turn) (store message : Bytes) (rows : List ℕ) (text out′ : Bytes) : Type 0 where
-  pub desk : deskOf (r .stream) store message rows text ≡ t .desk
+pub record Takes (t : Took) (s : Stream) (store out : Bytes) (at : ℕ) (r : Turn) (message : Bytes) (rows : List ℕ) (text out′ : Bytes) : Type 0 where
+  pub place : Open s store (r .from)
+  pub desk : deskFrom s store (r .from) message rows text ≡ t .desk
   pub goes : r .goes ≡ t .goes
   pub output : Put out at (t .line) out′ (r .at)
 

@@ -5,7 +5,8 @@ ghost use Rattle.answer.specs.declared.Verdict.the-variants.{Ok};
 ghost use Rattle.put.specs.Put.{Put};
 ghost use Rattle.book.specs.Book.{checked};
 ghost use Rattle.lines.specs.Lines.{toldNumber, refusalLine, textLine, heldLine, verdictLine, isFull, receiveOf, againOf, giveOf, stopLine, deskOf, tookOf, lineFits, takenAll};
-ghost use Rattle.lines.specs.Steps.{Gives, PutsMessage, Takes, TakesAll};
+ghost use Rattle.stream.specs.Inner.{Open};
+ghost use Rattle.lines.specs.Steps.{Gives, PutsMessage, deskFrom, Takes, TakesAll};
 use answer::Outcome;
 use answer::Refusal;
 use answer::Verdict;
@@ -121,9 +122,9 @@ pub fn give(s: Stream, store: &mut [u8], piece: &[u8], out: &mut [u8], at: usize
     Given { stream: t, at: q }
 }
 
-// The stream, the place in the output behind the line, and whether there may be more to take.
+// The place behind what is left behind, the place in the output behind the line, and whether there may be more to take.
 pub struct Turn {
-    pub stream: Stream,
+    pub from: usize,
     pub at: usize,
     pub goes: bool,
 }
@@ -154,11 +155,12 @@ fn put_message(
     }
 }
 
-// Inner: the next message, by a checked book: its line, or that of a refusal.
-pub fn take_one(
+// The next message of what is held from a place on, by a checked book: its line, or that of a refusal.
+fn take_one(
     book: &[u8],
     s: Stream,
-    store: &mut [u8],
+    store: &[u8],
+    from: usize,
     message: &mut [u8],
     rows: &mut [u64],
     text: &mut [u8],
@@ -166,16 +168,17 @@ pub fn take_one(
     at: usize,
 ) -> Turn
     requires { ⌜ checked (now book) ≡ Ok ⌝ }
-    ensures { λ r. ⌜ Takes (tookOf (now (book .entry)) (deskOf s (now (store .entry)) (now (message .entry)) (now (rows .entry)) (now (text .entry)))) (now (out .entry)) at r (now (store .exit)) (now (message .exit)) (now (rows .exit)) (now (text .exit)) (now (out .exit)) ⌝ }
+    requires { ⌜ Open s (now store) from ⌝ }
+    ensures { λ r. ⌜ Takes (tookOf (now (book .entry)) (deskFrom s (now (store .entry)) from (now (message .entry)) (now (rows .entry)) (now (text .entry)))) s (now (store .entry)) (now (out .entry)) at r (now (message .exit)) (now (rows .exit)) (now (text .exit)) (now (out .exit)) ⌝ }
 {
-    let t = stream::take(s, store, message);
-    let after = t.stream;
+    let t = stream::take_from(s, store, from, message);
+    let after = t.from;
     let a = t.answer;
     match a {
         Outcome::Done(n) => {
             let q = put_message(book, &message[..n], rows, text, out, at);
             Turn {
-                stream: after,
+                from: after,
                 at: q,
                 goes: true,
             }
@@ -183,7 +186,7 @@ pub fn take_one(
         Outcome::Refused(r) => {
             let q = put_stop(out, at, r);
             Turn {
-                stream: after,
+                from: after,
                 at: q,
                 goes: answer::number(r) == MALFORMED,
             }
@@ -213,7 +216,8 @@ pub struct Collected {
 }
 
 // Inner: every message that is there, by a checked book, as long as the output has room. Where there may be more, the caller writes what
-// was collected and calls again.
+// was collected and calls again. What is left behind is left in the store's front, up to `from`, until the end: the store is moved and
+// cleared once.
 pub fn take_all(
     book: &[u8],
     s: Stream,
@@ -227,22 +231,24 @@ pub fn take_all(
     requires { ⌜ checked (now book) ≡ Ok ⌝ }
     ensures { λ r. ⌜ TakesAll (takenAll (now (book .entry)) (length (now (out .entry))) at (deskOf s (now (store .entry)) (now (message .entry)) (now (rows .entry)) (now (text .entry)))) (now (out .entry)) at r (now (store .exit)) (now (message .exit)) (now (rows .exit)) (now (text .exit)) (now (out .exit)) ⌝ }
 {
-    let mut left = s;
+    let mut from = 0;
     let mut end = at;
     let mut goes = true;
     while goes {
         if !line_fits(out.len(), end, text.len()) {
+            let left = stream::move_on(s, store, from);
             return Collected {
                 stream: left,
                 at: end,
                 more: true,
             };
         }
-        let t = take_one(book, left, store, message, rows, text, out, end);
-        left = t.stream;
+        let t = take_one(book, s, &store[..], from, message, rows, text, out, end);
+        from = t.from;
         end = t.at;
         goes = t.goes;
     }
+    let left = stream::move_on(s, store, from);
     Collected {
         stream: left,
         at: end,

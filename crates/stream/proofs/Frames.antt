@@ -1,12 +1,10 @@
 -- What `take` leaves behind, and what it hands up.
-use mathlib.Core.Path.{_≡_, refl, sym, ap, ap₂, _∙_}
-use Prim.Native.Nat.{ℕ, suc, _+_, _-_, _≤_, _<_}
-use native.Mathlib.Numerals.{add-one}
+use mathlib.Core.Path.{_≡_, refl, sym, ap, _∙_}
+use Prim.Native.Nat.{ℕ, _-_, _≤_, _<_}
 use native.Mathlib.Omega.{arith}
 use mathlib.Core.Bool.{Bool, true, false}
-use mathlib.Core.List.{_++_}
-use lib.ListN.{length, take, drop, length-append, length-drop}
-use lib.Seq.{length-take-le, take-at, take-take, drop-drop}
+use lib.ListN.{length, take}
+use lib.Seq.{length-take-le, take-take}
 use Rattle.answer.specs.Answer.{Bytes, limit, zeros, after}
 use Rattle.answer.specs.declared.Refusal.{Refusal}
 use Rattle.answer.specs.declared.Refusal.the-variants as refusal
@@ -17,63 +15,12 @@ use Rattle.answer.specs.declared.Outcome.the-variants as outcome
 use Rattle.blocks.specs.Blocks.{hasZero, decode}
 use Rattle.blocks.specs.Promises.{decoded, given, decodeAnswer, Decodes}
 use Rattle.blocks.proofs.Answers.{decode-blocks}
-use Rattle.stream.specs.Stream.{past, trim, left}
-use Rattle.stream.specs.Calls.{hold, frame, claims, storeOf, stateAfter, storeAfter, takeAnswer, leavesFrame, takeResult, takeStore, takeOutput, Takes}
+use Rattle.stream.specs.Stream.{left}
+use Rattle.stream.specs.Calls.{hold, frame, claims, stateAfter, storeAfter, takeAnswer, leavesFrame, takeResult, takeStore, takeOutput, Takes}
 use Rattle.stream.specs.Inner.{AtFrame, Leaves}
 use Rattle.stream.specs.declared.Stream.{Stream}
-use Rattle.stream.proofs.Marks.{past-drop, before-take, before-le, before-clear, found, missed}
-use Rattle.stream.proofs.Stores.{drop-take}
+use Rattle.stream.proofs.Marks.{before-take, before-le, before-clear, found, missed}
 use Rattle.stream.proofs.Results.{sound, claims-stay}
-
-module _ (s : Stream) (store : Bytes) (z k : ℕ) (at : AtFrame s store z) where
-  -- the held bytes past the frame's first zero
-  abbrev tail : Bytes
-  tail = take (s .held - (z + 1)) (drop (z + 1) store)
-
-  tail-is : past (take (s .held) store) ≡ tail
-  tail-is =
-      let c : z < s .held = at .closed in
-      sym (past-drop (take (s .held) store))
-      ∙ ap (λ (n : ℕ). drop n (take (s .held) store)) (ap suc (sym (at .first)) ∙ sym (add-one z))
-      ∙ drop-take (z + 1) (s .held) store (omega arith)
-
-  module _ (few : k ≤ length tail) (e : drop k tail ≡ trim tail) where
-    abbrev from : ℕ
-    from = z + 1 + k
-
-    tail-size : length tail ≡ s .held - (z + 1)
-    tail-size =
-        let w : s .held ≤ length store = at .within in
-        length-take-le (s .held - (z + 1)) (drop (z + 1) store) (omega (arith, length-drop (z + 1) store))
-
-    rest : take (s .held - from) (drop from store) ≡ trim (past (take (s .held) store))
-    rest =
-        let size : k ≤ s .held - (z + 1) = omega (arith, tail-size) in
-        let same : s .held - from ≡ s .held - (z + 1) - k = omega arith in
-        ap₂ (λ (n : ℕ) (l : Bytes). take n l) same (sym (drop-drop k (z + 1) store))
-        ∙ sym (drop-take k (s .held - (z + 1)) (drop (z + 1) store) size)
-        ∙ e ∙ ap trim (sym tail-is)
-
-    rest-size : length (take (s .held - from) (drop from store)) ≡ s .held - from
-    rest-size =
-        let w : s .held ≤ length store = at .within in
-        length-take-le (s .held - from) (drop from store) (omega (arith, length-drop from store))
-
-    pub left-behind : (moved new : Bytes) → moved ≡ take (s .held - from) (drop from store) ++ drop (s .held - from) store
-        → new ≡ storeOf (length moved) (take (s .held - from) moved) → Leaves s store (record { held = s .held - from; hunting = s .hunting }) new
-    unfolding left
-    left-behind moved new m c =
-        let w : s .held ≤ length store = at .within in
-        let n : s .held - from ≡ length (trim (past (take (s .held) store))) = sym (ap length (sym rest) ∙ rest-size) in
-        let room : length moved ≡ length store =
-        ap length m ∙ length-append (take (s .held - from) (drop from store)) (drop (s .held - from) store)
-        ∙ omega (arith, rest-size, length-drop (s .held - from) store) in
-        record {
-          state = ap (λ (h : ℕ). record { held = h; hunting = s .hunting }) n;
-          store = c ∙ ap₂ storeOf room (ap (take (s .held - from)) m ∙ take-at (take (s .held - from) (drop from store)) (drop (s .held - from) store) (s .held - from) rest-size ∙ rest);
-        }
-
--- ---- the answers
 
 -- where a zero is held, the bytes before the first are the frame, and a coding that blocks judge by themselves
 module _ (s : Stream) (store : Bytes) (z : ℕ) (at : AtFrame s store z) where

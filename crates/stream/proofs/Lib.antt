@@ -13,5 +13,6 @@ pub mod Stands
 pub mod Wrong
 pub mod Tight
 pub mod Honest
+pub mod Onward
 pub mod Premise
 pub mod Runs

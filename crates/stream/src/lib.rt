@@ -6,7 +6,7 @@ ghost use mathlib.Core.Path.{_≡_};
 ghost use Prim.Native.Nat.{_≤_};
 ghost use lib.ListN.{length};
 ghost use Rattle.stream.specs.Calls.{freshly, claims, leavesFrame, Receives, Takes, Gaps};
-ghost use Rattle.stream.specs.Inner.{Hunted, Trimmed, AtFrame, Leaves};
+ghost use Rattle.stream.specs.Inner.{Hunted, Trimmed, stateFrom, storeFrom, Open, TakesFrom};
 use answer::LIMIT;
 use answer::Outcome;
 use answer::Refusal;
@@ -143,23 +143,6 @@ pub fn receive(s: Stream, store: &mut [u8], piece: &[u8]) -> Received
     }
 }
 
-// Drops the first frame, whose first zero stands at z, and all zeros after it.
-fn leave(s: Stream, store: &mut [u8], z: usize) -> Stream
-    requires { ⌜ AtFrame s (now store) z ⌝ }
-    ensures { λ r. ⌜ Leaves s (now (store .entry)) r (now (store .exit)) ⌝ }
-{
-    let held = s.held;
-    let next = z + 1;
-    let from = next + zeros::leading(&store[next..held]);
-    let n = held - from;
-    moves::shift(store, from, n);
-    moves::clear(store, n);
-    Stream {
-        held: n,
-        hunting: s.hunting,
-    }
-}
-
 // OK and MALFORMED leave the frame behind.
 fn leaves(up: Outcome) -> bool
     ensures { λ r. ⌜ r ≡ leavesFrame up ⌝ }
@@ -170,39 +153,87 @@ fn leaves(up: Outcome) -> bool
     }
 }
 
+// SIZE and STATE of what is held from a place on: a place behind a frame was judged when that was left.
+fn claimed_from(s: Stream, store: &[u8], from: usize) -> Verdict
+    requires { ⌜ Open s (now store) from ⌝ }
+    ensures { λ r. ⌜ r ≡ claims (stateFrom s from) (storeFrom s (now (store .entry)) from) ⌝ }
+{
+    if from == 0 {
+        return claimed(s, store);
+    }
+    Verdict::Ok
+}
+
+// An answer, and the place behind what it leaves behind.
+pub struct TakenFrom {
+    pub answer: Outcome,
+    pub from: usize,
+}
+
+// Inner: as `take`, for what is held from a place on, where all before it is left behind. State and store stay as they are until `move_on`,
+// so that taking many frames moves and clears the store once.
+pub fn take_from(s: Stream, store: &[u8], from: usize, out: &mut [u8]) -> TakenFrom
+    requires { ⌜ Open s (now store) from ⌝ }
+    ensures { λ r. ⌜ TakesFrom s (now (store .entry)) from (now (out .entry)) r (now (out .exit)) ⌝ }
+{
+    let claim = claimed_from(s, store, from);
+    if let Verdict::Refused(why) = claim {
+        answer::zero_bytes(out);
+        return TakenFrom {
+            answer: Outcome::Refused(why),
+            from,
+        };
+    }
+    let held = s.held;
+    let bytes = &store[from..held];
+    let z = zeros::first(bytes);
+    if z == bytes.len() {
+        answer::zero_bytes(out);
+        return TakenFrom {
+            answer: Outcome::Refused(Refusal::Wait),
+            from,
+        };
+    }
+    let up = blocks::decode_zero_free(&bytes[..z], out);
+    if leaves(up) {
+        let next = z + 1;
+        return TakenFrom {
+            answer: up,
+            from: from + next + zeros::leading(&bytes[next..]),
+        };
+    }
+    TakenFrom { answer: up, from }
+}
+
+// Inner: leaves behind all before a place, so that what is held from there on stands at the front.
+pub fn move_on(s: Stream, store: &mut [u8], from: usize) -> Stream
+    requires { ⌜ Open s (now store) from ⌝ }
+    ensures { λ r. ⌜ r ≡ stateFrom s from ⌝ }
+    ensures { λ _. ⌜ now (store .exit) ≡ storeFrom s (now (store .entry)) from ⌝ }
+{
+    if from == 0 {
+        return s;
+    }
+    let n = s.held - from;
+    moves::shift(store, from, n);
+    moves::clear(store, n);
+    Stream {
+        held: n,
+        hunting: s.hunting,
+    }
+}
+
 // Hands up the message of the first frame, and drops the frame with all zeros after it. A frame that is no coding is dropped
 // just so; one whose message is longer than the output stays.
 pub fn take(s: Stream, store: &mut [u8], out: &mut [u8]) -> Taken
     ensures { λ r. ⌜ Takes s (now (store .entry)) (now (out .entry)) r (now (store .exit)) (now (out .exit)) ⌝ }
 {
-    let claim = claimed(s, &store[..]);
-    if let Verdict::Refused(why) = claim {
-        answer::zero_bytes(out);
-        return Taken {
-            answer: Outcome::Refused(why),
-            stream: s,
-        };
-    }
-    let held = s.held;
-    let z = zeros::first(&store[..held]);
-    if z == held {
-        answer::zero_bytes(out);
-        return Taken {
-            answer: Outcome::Refused(Refusal::Wait),
-            stream: s,
-        };
-    }
-    let up = blocks::decode_zero_free(&store[..z], out);
-    if leaves(up) {
-        let next = leave(s, store, z);
-        return Taken {
-            answer: up,
-            stream: next,
-        };
-    }
+    let t = take_from(s, &store[..], 0, out);
+    let up = t.answer;
+    let next = move_on(s, store, t.from);
     Taken {
         answer: up,
-        stream: s,
+        stream: next,
     }
 }
 
