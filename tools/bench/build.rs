@@ -1,4 +1,4 @@
-//! Links the calls by a checked book (`rt staticlib bench_calls`) and says whether they are there; the C interface comes with `compare`.
+//! Links the calls that the program makes (`rt staticlib bench_calls`) and says whether they are there; the C interface comes with `compare`.
 use std::path::PathBuf;
 
 fn main() {

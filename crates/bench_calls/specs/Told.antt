@@ -3,10 +3,13 @@
 use Prim.Native.Nat.{ℕ}
 use mathlib.Core.Path.{_≡_}
 use mathlib.Core.List.{List}
+use mathlib.Core.Bool.{false}
 use lib.ListN.{length}
 use Rattle.answer.specs.Answer.{Bytes, after}
 use Rattle.answer.specs.declared.Outcome.{Outcome}
 use Rattle.answer.specs.declared.Outcome.the-variants as outcome
+use Rattle.stream.specs.Inner.{TakesFrom}
+use Rattle.stream.specs.declared.Stream.{Stream}
 use Rattle.rows.specs.Decoding.{frameOf}
 use Rattle.rows.specs.Answers.{given, decodedOf, rowsAfter}
 use Rattle.rows.specs.declared.frames.Decoded.{Decoded}
@@ -34,3 +37,12 @@ pub record WritesChecked (w : Which) (book message : Bytes) (old new : List ℕ)
   pub number : r ≡ toldOf (answerBy w book message (length out) (frameOf (given book message (length old))))
   pub work : new ≡ keptBy (answerBy w book message (length out) (frameOf (given book message (length old)))) (rowsAfter (frameOf (given book message (length old))) old)
   pub output : out′ ≡ after (answerBy w book message (length out) (frameOf (given book message (length old)))) (bytesBy w book message (frameOf (given book message (length old)))) out
+
+-- a stream that does not hunt
+abbrev pub streamOf : ℕ → Stream
+streamOf held = record { held = held; hunting = false }
+
+pub record TakesOn (s : Stream) (store : Bytes) (from from′ : ℕ) (out out′ : Bytes) (r : ℕ) : Type 0 where
+  pub answer : Outcome
+  pub number : r ≡ toldOf answer
+  pub takes : TakesFrom s store from out (record { answer = answer; from = from′ }) out′

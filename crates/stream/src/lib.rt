@@ -1,7 +1,8 @@
 // The stream of rzCOBS frames: bytes come in as the link brings them, and whole messages go up, never a half.
 //
 // `fresh` is the state to begin with; `receive` adds a piece, `take` hands up the next message, `gap` says that bytes were
-// lost. State and store are the caller's: each call judges what it is given, and trusts nothing past the held bytes.
+// lost. State and store are the caller's: each call judges what it is given, and trusts nothing past the held bytes. A `take` is
+// `take_from` and then `move_on`, which a caller that takes many messages calls once.
 ghost use mathlib.Core.Path.{_≡_};
 ghost use Prim.Native.Nat.{_≤_};
 ghost use lib.ListN.{length};
@@ -29,6 +30,12 @@ pub struct Received {
 pub struct Taken {
     pub answer: Outcome,
     pub stream: Stream,
+}
+
+// An answer, and the place behind what it leaves behind.
+pub struct TakenFrom {
+    pub answer: Outcome,
+    pub from: usize,
 }
 
 pub struct Gapped {
@@ -153,7 +160,7 @@ fn leaves(up: Outcome) -> bool
     }
 }
 
-// SIZE and STATE of what is held from a place on: a place behind a frame was judged when that was left.
+// SIZE and STATE of what is held from a place on: behind a frame that was left behind neither can come.
 fn claimed_from(s: Stream, store: &[u8], from: usize) -> Verdict
     requires { ⌜ Open s (now store) from ⌝ }
     ensures { λ r. ⌜ r ≡ claims (stateFrom s from) (storeFrom s (now (store .entry)) from) ⌝ }
@@ -162,12 +169,6 @@ fn claimed_from(s: Stream, store: &[u8], from: usize) -> Verdict
         return claimed(s, store);
     }
     Verdict::Ok
-}
-
-// An answer, and the place behind what it leaves behind.
-pub struct TakenFrom {
-    pub answer: Outcome,
-    pub from: usize,
 }
 
 // Inner: as `take`, for what is held from a place on, where all before it is left behind. State and store stay as they are until `move_on`,

@@ -1,6 +1,6 @@
 //! The rows of the table: what each measures, on both sides.
 
-use crate::checked::Checked;
+use crate::checked::{take_all, Checked};
 use crate::inputs::{self, Frames, PIECE};
 use crate::plain;
 use crate::timing::{answers, best, Sink, Work};
@@ -113,8 +113,27 @@ pub fn encoding(messages: Vec<Vec<u8>>) -> Row {
     }
 }
 
+/// By which calls messages are taken: the public one, or the program's, which move the store once for all that are there.
+#[derive(Clone, Copy, PartialEq, Eq)]
+pub enum Taken {
+    Each,
+    All,
+}
+
+/// Every message that a stream holds, each by the public call.
+fn take_each(stream: &mut Stream, store: &mut [u8], out: &mut [u8], sink: Sink) {
+    loop {
+        let told = Ours.take(stream, store, out);
+        if told.answer == WAIT {
+            break;
+        }
+        assert_eq!(told.answer, OK);
+        sink(&out[..told.count as usize]);
+    }
+}
+
 /// A stream in pieces, each message taken as soon as it is there.
-pub fn stream(wire: Vec<u8>, piece: usize, store: usize) -> Row {
+pub fn stream(wire: Vec<u8>, piece: usize, store: usize, taken: Taken) -> Row {
     let units = wire.len();
     let wire: Rc<[u8]> = wire.into();
     let rust = wire.clone();
@@ -126,13 +145,9 @@ pub fn stream(wire: Vec<u8>, piece: usize, store: usize) -> Row {
             let mut stream = Stream::default();
             for piece in wire.chunks(piece) {
                 assert_eq!(Ours.receive(&mut stream, &mut store, piece), OK);
-                loop {
-                    let told = Ours.take(&mut stream, &mut store, &mut out);
-                    if told.answer == WAIT {
-                        break;
-                    }
-                    assert_eq!(told.answer, OK);
-                    sink(&out[..told.count as usize]);
+                match taken {
+                    Taken::Each => take_each(&mut stream, &mut store, &mut out, sink),
+                    Taken::All => take_all(&mut stream, &mut store, &mut out, sink),
                 }
             }
         }),
@@ -257,9 +272,14 @@ fn blocks() -> Vec<Named> {
 }
 
 fn streams() -> Vec<Named> {
-    let typical = || stream(inputs::wire(&inputs::typical().messages), PIECE, STORE);
-    let long = || stream(inputs::wire(&inputs::plain(900, 3)), PIECE, STORE);
-    vec![named("stream, typical frames", typical), named("stream, frames of 900 bytes", long)]
+    let typical = |taken| stream(inputs::wire(&inputs::typical().messages), PIECE, STORE, taken);
+    let long = |taken| stream(inputs::wire(&inputs::plain(900, 3)), PIECE, STORE, taken);
+    vec![
+        named("stream, typical frames", move || typical(Taken::Each)),
+        named("stream, typical frames, moved once a piece", move || typical(Taken::All)),
+        named("stream, frames of 900 bytes", move || long(Taken::Each)),
+        named("stream, frames of 900 bytes, moved once a piece", move || long(Taken::All)),
+    ]
 }
 
 /// Frames to write, by their name.
