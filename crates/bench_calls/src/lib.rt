@@ -1,12 +1,12 @@
 // The inner calls that the program makes, under names that tools/bench links: the C interface checks the book on each call, and moves the
 // store with each message. A count comes back as it is, and a refusal as the greatest number.
 ghost use mathlib.Core.Path.{_≡_};
+ghost use Prim.Native.Nat.{_-_};
 ghost use Rattle.answer.specs.declared.Verdict.the-variants.{Ok};
 ghost use Rattle.book.specs.Book.{checked};
 ghost use Rattle.text.specs.declared.Which.the-variants as which;
 ghost use Rattle.stream.specs.Inner.{storeFrom, Open};
 ghost use Rattle.bench_calls.specs.Told.{toldOf, DecodesChecked, WritesChecked, streamOf, TakesOn};
-ghost use Prim.Native.Nat.{_-_};
 use answer::Outcome;
 use rows::Decoded;
 use stream::Stream;

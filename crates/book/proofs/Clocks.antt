@@ -10,6 +10,7 @@ use Rattle.answer.specs.declared.Verdict.the-variants.{Ok}
 use Rattle.parts.specs.Parts.{Bytes, bytes, part, same}
 use Rattle.parts.proofs.Places.{byte-is, part-length}
 use Rattle.parts.proofs.Names.{same-equal}
+use Rattle.book.specs.Lines.{Part}
 use Rattle.book.specs.Book.{checked, timed, timedIn, clock}
 use Rattle.book.specs.Steps.{lineEnd}
 use Rattle.book.specs.declared.Clock.the-variants as time
@@ -66,8 +67,12 @@ module _ (s : Bytes) (c : checked s ≡ Ok) where
   unfolding same
   said-no g = elim (top .either) [ inl y ↦ absurd (g (letter-yes y)) | inr n ↦ ap (λ (u : Bytes). same u (bytes "yes")) (same-equal says (bytes "no") n) ]
 
-  ticks : {b : Bool} → same says (bytes "yes") ≡ b → clock s ≡ timed (ticking b (record { start = top .two + 1 + 10; text = part s (top .two + 1 + 10) (is-checked s c .stop) }))
-  ticks f = clock-as s c ∙ ap timed (top .clock ∙ ap (λ (x : Bool). ticking x (record { start = top .two + 1 + 10; text = part s (top .two + 1 + 10) (is-checked s c .stop) })) f)
+  -- the timestamp's text
+  abbrev stamped : Part
+  stamped = record { start = top .two + 1 + 10; text = part s (top .two + 1 + 10) (is-checked s c .stop) }
+
+  ticks : {b : Bool} → same says (bytes "yes") ≡ b → clock s ≡ timed (ticking b stamped)
+  ticks f = clock-as s c ∙ ap timed (top .clock ∙ ap (λ (x : Bool). ticking x stamped) f)
 
   pub clock-no : (getD s 13 0 ≡ 121 → ⊥) → time.No ≡ clock s
   clock-no g = sym (ticks (said-no g))

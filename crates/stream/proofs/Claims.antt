@@ -12,6 +12,10 @@ use Rattle.answer.specs.declared.Verdict.the-variants as verdict
 use Rattle.stream.specs.Calls.{badState, claims}
 use Rattle.stream.specs.declared.Stream.{Stream}
 
+pub positive : (k : ℕ) → k ≢ 0 → 0 < k
+positive zero e = absurd (e refl)
+positive (suc k) e = omega arith
+
 module _ (s : Stream) (store : Bytes) where
   pub too-large : limit < length store → claims s store ≡ verdict.Refused refusal.Size
   unfolding claims
@@ -29,11 +33,7 @@ module _ (s : Stream) (store : Bytes) where
   pub zero-first : length store ≤ limit → s .held ≤ length store → s .held ≢ 0 → getD store 0 0 ≡ 0
       → claims s store ≡ verdict.Refused refusal.State
   unfolding badState
-  zero-first l h n z = judged true l (rw (le-ltb (length store) (s .held) h, lt-ltb 0 (s .held) (pos (s .held) n), eq-eqb (getD store 0 0) 0 z, badState))
-    where
-      pos : (k : ℕ) → k ≢ 0 → 0 < k
-      pos zero e = absurd (e refl)
-      pos (suc k) e = omega arith
+  zero-first l h n z = judged true l (rw (le-ltb (length store) (s .held) h, lt-ltb 0 (s .held) (positive (s .held) n), eq-eqb (getD store 0 0) 0 z, badState))
 
   pub none-held : length store ≤ limit → s .held ≡ 0 → claims s store ≡ verdict.Ok
   unfolding badState

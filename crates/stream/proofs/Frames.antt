@@ -17,10 +17,20 @@ use Rattle.blocks.specs.Promises.{decoded, given, decodeAnswer, Decodes}
 use Rattle.blocks.proofs.Answers.{decode-blocks}
 use Rattle.stream.specs.Stream.{left}
 use Rattle.stream.specs.Calls.{hold, frame, claims, stateAfter, storeAfter, takeAnswer, leavesFrame, takeResult, takeStore, takeOutput, Takes}
-use Rattle.stream.specs.Inner.{AtFrame, Leaves}
 use Rattle.stream.specs.declared.Stream.{Stream}
 use Rattle.stream.proofs.Marks.{before-take, before-le, before-clear, found, missed}
 use Rattle.stream.proofs.Results.{sound, claims-stay}
+
+-- the first zero among the held bytes stands at z
+pub record AtFrame (s : Stream) (store : Bytes) (z : ℕ) : Type 0 where
+  pub within : s .held ≤ length store
+  pub first : z ≡ length (frame s store)
+  pub closed : z < s .held
+
+-- the frame there is left behind
+pub record Leaves (s : Stream) (old : Bytes) (r : Stream) (new : Bytes) : Type 0 where
+  pub state : r ≡ stateAfter true s (left (hold s old))
+  pub store : new ≡ storeAfter true old (left (hold s old))
 
 -- where a zero is held, the bytes before the first are the frame, and a coding that blocks judge by themselves
 module _ (s : Stream) (store : Bytes) (z : ℕ) (at : AtFrame s store z) where

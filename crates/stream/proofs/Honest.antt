@@ -1,17 +1,17 @@
 -- A caller who begins with a fresh state and a store of at most 65,536 bytes, and passes both on as it got them, is never answered
 -- STATE, nor SIZE for its store: what may still be refused is a piece's SIZE, FULL and ROOM.
 use mathlib.Core.Path.{_≡_, refl, sym, _∙_, ap}
-use Prim.Native.Nat.{ℕ, zero, suc, _+_, _-_, _≤_, _<_, zero-le}
+use Prim.Native.Nat.{ℕ, zero, suc, _-_, _≤_, _<_, zero-le}
 use native.Mathlib.Nat.{not-suc-le-zero, le-refl, le-step}
 use native.Mathlib.Omega.{arith}
 use mathlib.Core.Bool.{true}
 use mathlib.Core.Option.{Option}
 use mathlib.Core.List.{List, [], _∷_}
-use lib.ListN.{length, take, getD, length-append, length-replicate}
+use lib.ListN.{length, take, getD, length-append}
 use lib.Seq.{length-take-le}
 use lib.Dec.{ltb}
 use borrow.Author.Tests.{ltb-true, ltb-false}
-use Rattle.answer.specs.Answer.{Bytes, limit, zeros}
+use Rattle.answer.specs.Answer.{Bytes, limit}
 use Rattle.answer.specs.declared.Refusal.{Refusal}
 use Rattle.answer.specs.declared.Refusal.the-variants as refusal
 use Rattle.answer.specs.declared.Verdict.the-variants as verdict
@@ -22,6 +22,7 @@ use Rattle.stream.specs.Ours.{Have, ours}
 use Rattle.stream.specs.declared.Stream.{Stream}
 use Rattle.stream.proofs.Marks.{by-test, closed-le}
 use Rattle.stream.proofs.Claims.{none-held, some-held}
+use Rattle.stream.proofs.Stores.{store-length}
 use Rattle.stream.proofs.Results.{not-refused, claims-cases}
 use Rattle.stream.proofs.Scanning.{NoLead}
 use Rattle.stream.proofs.Following.{reached}
@@ -34,11 +35,8 @@ pub record Fits (size : ℕ) (x : Have) : Type 0 where
 
 -- a hold that is no longer than the store makes a state and a store that fit
 fits-moved : {x y : Have} {h : Hold} {size : ℕ} → Fits size x → Moved true x y h → length (h .bytes) ≤ length (x .store) → Fits size y
-unfolding zeros
 fits-moved {x} {y} {h} f m l =
-    let room : length (y .store) ≡ length (x .store) =
-    ap length (m .store) ∙ length-append (h .bytes) (zeros (length (x .store) - length (h .bytes)))
-    ∙ ap (λ (k : ℕ). length (h .bytes) + k) (length-replicate (length (x .store) - length (h .bytes)) 0) ∙ omega arith in
+    let room : length (y .store) ≡ length (x .store) = ap length (m .store) ∙ store-length (length (x .store)) (h .bytes) l in
     record { same = room ∙ f .same; within = omega (arith, ap (λ (t : Stream). t .held) (m .state)) }
 
 pub held-size : {size : ℕ} {x : Have} → Fits size x → length (holds x .bytes) ≡ x .stream .held

@@ -6,7 +6,7 @@ use native.Mathlib.Numerals.{add-one}
 use native.Mathlib.Omega.{arith}
 use mathlib.Core.Bool.{Bool, true, false}
 use mathlib.Core.List.{_++_}
-use lib.ListN.{length, take, drop, length-append, length-drop, length-replicate}
+use lib.ListN.{length, take, drop, length-append, length-drop}
 use lib.Seq.{length-take-le, take-at, take-take, drop-drop}
 use Rattle.answer.specs.Answer.{Bytes, limit, zeros}
 use Rattle.answer.specs.declared.Refusal.{Refusal}
@@ -19,16 +19,17 @@ use Rattle.blocks.specs.Blocks.{hasZero}
 use Rattle.blocks.specs.Promises.{Decodes}
 use Rattle.stream.specs.Stream.{before, past, trim, left}
 use Rattle.stream.specs.Calls.{frame, claims, storeOf, leavesFrame, Takes}
-use Rattle.stream.specs.Inner.{stateFrom, storeFrom, Open, TakesFrom, AtFrame}
+use Rattle.stream.specs.Inner.{stateFrom, storeFrom, Open, TakesFrom}
 use Rattle.stream.specs.declared.Stream.{Stream}
 use Rattle.stream.specs.declared.Taken.{Taken}
 use Rattle.stream.specs.declared.TakenFrom.{TakenFrom}
 use Rattle.stream.proofs.Marks.{past-drop}
-use Rattle.stream.proofs.Stores.{part-end, drop-take}
+use Rattle.stream.proofs.Stores.{store-length, part-end, drop-take}
+use Rattle.stream.proofs.Claims.{positive}
 use Rattle.stream.proofs.Results.{sound}
 use Rattle.stream.proofs.Scanning.{NoLead, lead-trim}
 use Rattle.stream.proofs.Honest.{passes}
-use Rattle.stream.proofs.Frames.{at-frame, frame-small, frame-free, take-refused, take-waits, take-leaves, take-stays}
+use Rattle.stream.proofs.Frames.{AtFrame, at-frame, frame-small, frame-free, take-refused, take-waits, take-leaves, take-stays}
 
 -- ---- the store
 
@@ -47,14 +48,12 @@ module _ (s : Stream) (store : Bytes) where
     held-size : (from : ℕ) → from ≤ s .held → length (drop from (take (s .held) store)) ≡ s .held - from
     held-size from h = length-drop from (take (s .held) store) ∙ ap (λ (n : ℕ). n - from) (length-take-le (s .held) store fits)
 
+    part-size : (from : ℕ) → length (take (s .held - from) (drop from store)) ≡ s .held - from
+    part-size from = length-take-le (s .held - from) (drop from store) (omega (arith, fits, length-drop from store))
+
     store-size : (from : ℕ) → from ≤ s .held → length (storeFrom s store from) ≡ length store
-    unfolding zeros
     store-size zero h = refl
-    store-size (suc k) h =
-        let n = held-size (suc k) h in
-        length-append (drop (suc k) (take (s .held) store)) (zeros (length store - length (drop (suc k) (take (s .held) store))))
-        ∙ ap (λ (m : ℕ). length (drop (suc k) (take (s .held) store)) + m) (length-replicate (length store - length (drop (suc k) (take (s .held) store))) 0)
-        ∙ omega (arith, n)
+    store-size (suc k) h = store-length (length store) (drop (suc k) (take (s .held) store)) (omega (arith, held-size (suc k) h, fits))
 
     store-held : (from : ℕ) → from ≤ s .held → take (s .held - from) (storeFrom s store from) ≡ take (s .held - from) (drop from store)
     store-held zero h = refl
@@ -68,20 +67,17 @@ module _ (s : Stream) (store : Bytes) (from : ℕ) (o : Open s store from) where
   moved-none e = (sym (from-start s) ∙ ap (stateFrom s) (sym e), ap (storeFrom s store) (sym e))
 
   module _ (some : 0 < from) where
-    fits : s .held ≤ length store
-    fits = o .room some
-
-    part-size : length (take (s .held - from) (drop from store)) ≡ s .held - from
-    part-size = length-take-le (s .held - from) (drop from store) (omega (arith, fits, length-drop from store))
+    size : length (take (s .held - from) (drop from store)) ≡ s .held - from
+    size = part-size s store (o .room some) from
 
     pub moved-on : (moved new : Bytes) → moved ≡ take (s .held - from) (drop from store) ++ drop (s .held - from) store
         → new ≡ storeOf (length moved) (take (s .held - from) moved) → new ≡ storeFrom s store from
     moved-on moved new m c =
         let room : length moved ≡ length store =
         ap length m ∙ length-append (take (s .held - from) (drop from store)) (drop (s .held - from) store)
-        ∙ omega (arith, fits, part-size, length-drop (s .held - from) store) in
+        ∙ omega (arith, o .room some, size, length-drop (s .held - from) store) in
         c
-        ∙ ap₂ storeOf room (ap (take (s .held - from)) m ∙ take-at (take (s .held - from) (drop from store)) (drop (s .held - from) store) (s .held - from) part-size
+        ∙ ap₂ storeOf room (ap (take (s .held - from)) m ∙ take-at (take (s .held - from) (drop from store)) (drop (s .held - from) store) (s .held - from) size
         ∙ sym (drop-take from (s .held) store (o .inside)))
         ∙ sym (store-some s store from some)
 
@@ -96,10 +92,7 @@ module _ (s : Stream) (store : Bytes) (from : ℕ) (o : Open s store from) where
   claims-start e h = h ∙ (λ i. claims (moved-none s store from o e .0 i) (moved-none s store from o e .1 i))
 
   pub claims-later : (from ≡ 0 → ⊥) → verdict.Ok ≡ claims (stateFrom s from) (storeFrom s store from)
-  claims-later n = sym (o .sound (some from n))
-    where
-      some : (k : ℕ) → (k ≡ 0 → ⊥) → 0 < k
-      some k h = omega (arith, h)
+  claims-later n = sym (o .sound (positive from n))
 
   pub from-refused : (v : Verdict) (r : Refusal) (out new : Bytes) → v ≡ claims (stateFrom s from) (storeFrom s store from) → v ≡ verdict.Refused r
       → new ≡ zeros (length out) → TakesFrom s store from out (record { answer = outcome.Refused r; from = from }) new
@@ -117,7 +110,7 @@ module _ (s : Stream) (store : Bytes) (from : ℕ) (o : Open s store from) where
     held-is = store-held s store from-inside from (o .inside)
 
     pub seen-size : length seen ≡ s .held - from
-    seen-size = length-take-le (s .held - from) (drop from store) (omega (arith, from-inside, length-drop from store))
+    seen-size = part-size s store from-inside from
 
     module _ (z : ℕ) (first : z ≡ length (before seen)) where
       there : z ≡ length (frame (stateFrom s from) (storeFrom s store from))

@@ -4,7 +4,7 @@ use Prim.Native.Nat.{ℕ, zero, suc, _+_, _-_, _≤_}
 use native.Mathlib.Nat.{not-suc-le-zero, le-of-suc-le-suc, sub-zero, suc-sub-suc}
 use native.Mathlib.Omega.{arith}
 use mathlib.Core.List.{[], _∷_, _++_, append-nil, append-assoc}
-use lib.ListN.{length, take, drop, length-append, length-drop, drop-of-length-le}
+use lib.ListN.{length, take, drop, length-append, length-drop, length-replicate, drop-of-length-le}
 use lib.Seq.{length-take-le, take-all, take-length, take-at, drop-at, take-nil, take-add, drop-drop, paste, length-paste}
 use Rattle.answer.specs.Answer.{Bytes, zeros}
 use Rattle.stream.specs.Calls.{storeOf}
@@ -15,6 +15,12 @@ part-end k l = take-all (length l - k) (drop k l) (omega (arith, length-drop k l
 
 pub part-rest : (k : ℕ) (l : Bytes) → drop (length l - k) (drop k l) ≡ []
 part-rest k l = drop-of-length-le (drop k l) {i = length l - k} (omega (arith, length-drop k l))
+
+-- a store has its size
+pub store-length : (size : ℕ) (held : Bytes) → length held ≤ size → length (storeOf size held) ≡ size
+unfolding zeros
+store-length size held h =
+    length-append held (zeros (size - length held)) ∙ ap (λ (k : ℕ). length held + k) (length-replicate (size - length held) 0) ∙ omega arith
 
 -- the part from k on, written anew
 abbrev pub written : Bytes → ℕ → Bytes → Bytes

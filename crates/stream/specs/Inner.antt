@@ -1,13 +1,13 @@
 -- What the inner functions of `receive` and `take` ask and do. Definitions only.
 use Prim.Native.Nat.{ℕ, zero, suc, _-_, _≤_, _<_}
 use mathlib.Core.Path.{_≡_}
-use mathlib.Core.Bool.{Bool, true, not, _&&_, cond}
+use mathlib.Core.Bool.{Bool, not, _&&_, cond}
 use lib.ListN.{length, take, drop}
 use Rattle.answer.specs.Answer.{Bytes}
 use Rattle.answer.specs.declared.Verdict.the-variants.{Ok}
 use Rattle.blocks.specs.Blocks.{hasZero}
-use Rattle.stream.specs.Stream.{past, trim, left}
-use Rattle.stream.specs.Calls.{hold, frame, storeOf, stateAfter, storeAfter, claims, Takes}
+use Rattle.stream.specs.Stream.{past, trim}
+use Rattle.stream.specs.Calls.{storeOf, claims, Takes}
 use Rattle.stream.specs.declared.Stream.{Stream}
 use Rattle.stream.specs.declared.Start.{Start}
 use Rattle.stream.specs.declared.TakenFrom.{TakenFrom}
@@ -42,14 +42,3 @@ pub record Open (s : Stream) (store : Bytes) (from : ℕ) : Type 0 where
 pub record TakesFrom (s : Stream) (store : Bytes) (from : ℕ) (out : Bytes) (r : TakenFrom) (out′ : Bytes) : Type 0 where
   pub place : Open s store (r .from)
   pub takes : Takes (stateFrom s from) (storeFrom s store from) out (record { answer = r .answer; stream = stateFrom s (r .from) }) (storeFrom s store (r .from)) out′
-
--- the first zero among the held bytes stands at z
-pub record AtFrame (s : Stream) (store : Bytes) (z : ℕ) : Type 0 where
-  pub within : s .held ≤ length store
-  pub first : z ≡ length (frame s store)
-  pub closed : z < s .held
-
--- the frame there is left behind
-pub record Leaves (s : Stream) (old : Bytes) (r : Stream) (new : Bytes) : Type 0 where
-  pub state : r ≡ stateAfter true s (left (hold s old))
-  pub store : new ≡ storeAfter true old (left (hold s old))

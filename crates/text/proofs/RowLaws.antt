@@ -1,7 +1,7 @@
 -- What is judged of a row, by its class, and of all rows. Assumes nothing.
 use Prim.Native.Nat.{ℕ, zero, suc, _+_, _-_, _*_, _≤_, _<_}
 use mathlib.Core.Path.{_≡_, refl, sym, ap, ap₂, _∙_, subst}
-use mathlib.Core.Bool.{Bool, true, false, not, _&&_, _||_}
+use mathlib.Core.Bool.{Bool, true, false, false≢true, not, _&&_, _||_}
 use mathlib.Core.List.{List, [], _∷_}
 use mathlib.Core.Option.{none, some}
 use native.Mathlib.Omega.{arith}
@@ -68,19 +68,16 @@ judges-as {j} y e w = record { bad = λ h. w .bad h ∙ ap unprintable (sym (e h
 never-told : (j : Judged) (s : Sort) → never j ≡ true → told j s ≡ false
 never-told j s e = by s (j .other) (j .quoted) (j .debugged) refl refl refl e
   where
-    no : {X : Type 0} → false ≡ true → X
-    no e = absurd (let z : _≡_ {A = ℕ} 0 1 = cc in omega arith)
-
     by : (s : Sort) (a b c : Bool) → j .other ≡ a → j .quoted ≡ b → j .debugged ≡ c → (not a && not b && not c) ≡ true → told j s ≡ false
     by sort.Other false b c ea eb ec g = ea
     by sort.Quoted false false c ea eb ec g = eb
     by sort.Debugged false false false ea eb ec g = ec
-    by sort.Debugged false false true ea eb ec g = no g
-    by sort.Debugged false true c ea eb ec g = no g
-    by sort.Quoted false true c ea eb ec g = no g
-    by sort.Other true b c ea eb ec g = no g
-    by sort.Quoted true b c ea eb ec g = no g
-    by sort.Debugged true b c ea eb ec g = no g
+    by sort.Debugged false false true ea eb ec g = absurd (false≢true g)
+    by sort.Debugged false true c ea eb ec g = absurd (false≢true g)
+    by sort.Quoted false true c ea eb ec g = absurd (false≢true g)
+    by sort.Other true b c ea eb ec g = absurd (false≢true g)
+    by sort.Quoted true b c ea eb ec g = absurd (false≢true g)
+    by sort.Debugged true b c ea eb ec g = absurd (false≢true g)
 
 side-alike : (j : Judged) (b : Bool) → side (record { apart = j; item = j }) b ≡ j
 side-alike j true = refl

@@ -1,19 +1,14 @@
-use mathlib.Core.Path.{_≡_, refl, sym, subst}
-use mathlib.Core.Bool.{Bool, true, false, not}
+use mathlib.Core.Path.{sym, subst}
+use mathlib.Core.Bool.{false}
 use mathlib.Core.Logic.{inl, inr}
-use native.Mathlib.Omega.{arith}
-use Prim.Native.Nat.{ℕ}
 use Rattle.format.specs.declared.types.Kind.the-variants as kind
 use Rattle.text.specs.Text.{eachOf, laterOf}
 use Rattle.text.specs.Marks.{Judges}
 use Rattle.text.proofs.RowLaws.{judged-plain, list-plain-judged, list-quoted-judged}
 use borrow.Author.Needs.{needs}
+use borrow.Author.Tests.{not-false}
 use Rattle.text.proofs.judging.judge_list.Statement.{statement}
 use Rattle.text.proofs.judging.judge_list.Tie as tie
-
-is-true : (b : Bool) → not b ≡ false → b ≡ true
-is-true true e = refl
-is-true false e = absurd (let z : _≡_ {A = ℕ} 0 1 = cc in omega arith)
 
 elements : (c : tie.Joined1) → let a = c .before .before .before .before .before .before .args in
     Judges (λ h. eachOf (laterOf (a .book .now) (a .message .now) (a .rows .now) (a .first)) (a .rows .now) kind.Format false h (a .n) (a .first)) (c .if1 .j)
@@ -22,7 +17,7 @@ elements c =
     let a = s .args in
     elim (c .if1 .came) [
       | inl w ↦ subst (Judges _) (sym (w .2)) (w .1 .ensures)
-      | inr w ↦ subst (Judges _) (sym (w .1)) (judged-plain (a .book .now) (a .message .now) (a .rows .now) (a .first) (a .plain) kind.Format (a .n) _ (s .pre .1) (s .pre .2) (is-true _ (w .0 .left)) (c .before .always-shown .ensures))
+      | inr w ↦ subst (Judges _) (sym (w .1)) (judged-plain (a .book .now) (a .message .now) (a .rows .now) (a .first) (a .plain) kind.Format (a .n) _ (s .pre .1) (s .pre .2) (not-false _ (w .0 .left)) (c .before .always-shown .ensures))
     ]
 
 pub judge-list-spec : {M : Type 1} → statement M
