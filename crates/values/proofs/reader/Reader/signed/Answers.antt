@@ -1,0 +1,11 @@
+use Rattle.values.specs.Values.{signed_at}
+use Rattle.values.proofs.Answers.{at_exit, stopped, passed}
+use Rattle.values.proofs.reader.Reader.signed.Goals as goal
+
+pub returns-in_err-number : goal.returns-in_err-number
+unfolding signed_at
+returns-in_err-number c = at_exit c.from_residual.ensures.1 (stopped c.in_err-number.ensures (λ b. rw (b, signed_at)))
+
+pub returns : goal.returns
+unfolding signed_at
+returns c = let t = c.in_ok-number.ensures in passed t.0 (λ b. rw (b, signed_at, ← t.1, c.into.ensures, c.extended.ensures))
