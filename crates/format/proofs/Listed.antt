@@ -1,13 +1,14 @@
 -- Tables read by number: a name is told by its number in its table (`first_name`), and a number by what its name means. The readers of
 -- types and hints in these words, and that they read what those of the grammar read. Assumes nothing.
-use Prim.Native.Nat.{ℕ, ◌+◌}
+use Prim.Native.Nat.{ℕ, zero, suc, ◌+◌}
 use mathlib.Core.Path.{◌≡◌, refl, sym, ap, ap₂, ◌∙◌}
 use mathlib.Core.Bool.{Bool, true, false}
 use mathlib.Core.List.{List, [], ◌∷◌}
 use lib.ListN.{length, drop}
 use lib.Dec.{eqb, ltb}
+use native.Mathlib.Omega.{arith}
 use Rattle.std.specs.Prelude.{Option, Some, None, Ok, Err}
-use Rattle.parts.specs.Parts.{Bytes, bytes, byte, begins, digit_of, number_at, first_name, Named, Number}
+use Rattle.parts.specs.Parts.{Bytes, bytes, byte, begins, digit_of, number_at, first_name, words, grow, Named, Number}
 use Rattle.parts.proofs.Places.{by_test}
 use Rattle.parts.proofs.Tables.{first_name_here, first_name_later}
 use Rattle.format.specs.Grammar.{Read, is, Row, names, named, meaning, types, arrays, kind_no, bits_at, spaced, count_at, sized, array_at, type_at, hints, bases, pad_at, based_by, shaped_at, hint_at}
@@ -84,6 +85,18 @@ hint_at_as_listed s at =
       | None ↦ elim (is s at "#") [ true ↦ shaped_at_as_listed s true (at + 1) | false ↦ shaped_at_as_listed s false at ]
     ]
 
+first_array : (k : ℕ) → k ≡ 0 → (r : Read ℕ) → sized kind.ByteArray r ≡ sized (array_no k) r
+unfolding arrays meaning
+first_array zero e r = refl
+first_array (suc k) e r = absurd (omega arith)
+
+-- the second name, and none behind it
+other_array : (k : ℕ) → (k ≡ 0 → ⊥) → (r : Read ℕ) → sized kind.FormatArray r ≡ sized (array_no k) r
+unfolding arrays meaning
+other_array zero e r = absurd (e refl)
+other_array (suc zero) e r = refl
+other_array (suc (suc k)) e r = refl
+
 -- ---- they read the same
 
 module _ (s : Bytes) where
@@ -128,6 +141,28 @@ module _ (s : Bytes) where
       over : (r : Named) → ◌≡◌ {A = Read Kind} (array_by at (by_number array_no r)) (elim r [ None ↦ Err at | Some (k, next) ↦ count_at_as_listed s k (spaced s next) ])
       over None = refl
       over (Some (k, next)) = sized_listed k next
+
+  -- by the number of the name that stands at a place
+  module _ (at : ℕ) (r : Named) (f : r ≡ first_name (words (bytes "[u8; [?;")) s at 0) where
+    array_of : array_by at (by_number array_no r) ≡ array_at s at
+    unfolding array_at arrays names words grow
+    array_of = ap (λ (q : Named). array_by at (by_number array_no q)) f ∙ sym (ap (array_by at) (arrays_listed at))
+
+    pub no_array : r ≡ None → Err at ≡ array_at s at
+    no_array e = sym (ap (λ (q : Named). array_by at (by_number array_no q)) e) ∙ array_of
+
+    module _ (k next : ℕ) (e : r ≡ Some (k, next)) where
+      numbered : sized (array_no k) (count_at s next) ≡ array_at s at
+      numbered = sym (ap (λ (q : Named). array_by at (by_number array_no q)) e) ∙ array_of
+
+      pub bad_count : {e : ℕ} → Err e ≡ count_at s next → Err e ≡ array_at s at
+      bad_count q = ap (sized (array_no k)) q ∙ numbered
+
+      pub byte_array : k ≡ 0 → sized kind.ByteArray (count_at s next) ≡ array_at s at
+      byte_array z = first_array k z (count_at s next) ∙ numbered
+
+      pub format_array : (k ≡ 0 → ⊥) → sized kind.FormatArray (count_at s next) ≡ array_at s at
+      format_array z = other_array k z (count_at s next) ∙ numbered
 
   -- behind a byte that is no digit
   abbrev type_by : Read Kind → Option (Kind × ℕ) → Read Kind

@@ -5,7 +5,7 @@ use Rattle.values.proofs.reader.Reader.bits.Goals as goal
 
 pub returns-in_err-v : goal.returns-in_err-v
 unfolding bits_at bits_width
-returns-in_err-v c = at_exit c.from_residual.ensures.1 (stopped c.in_err-v.ensures (λ b. rw (← c.width_of.ensures.0, b, bits_at)))
+returns-in_err-v c = at_exit c.from_residual.ensures.1 (stopped c.in_err-v.ensures c.in_err-v.ensures.place (λ b. rw (← c.width_of.ensures.0, b, bits_at)))
 
 pub returns : goal.returns
 unfolding bits_at bits_width

@@ -1,4 +1,4 @@
-use Rattle.std.proofs.Common.{arith, ap, sym, ◌∙◌, ◌+◌}
+use Rattle.std.proofs.Common.{arith, ap, refl, sym, ◌∙◌, ◌+◌}
 use Rattle.std.specs.Prelude.{Ok}
 use Rattle.values.specs.declared.words.Words.{Words}
 use Rattle.values.proofs.Littles.{little_one}
@@ -8,7 +8,7 @@ use Rattle.values.proofs.reader.Reader.boolean.Goals as goal
 pub returns-in_err-v : goal.returns-in_err-v
 returns-in_err-v c =
     let h = c.in_err-v.ensures.beyond in
-    at_exit c.from_residual.ensures.1 (stopped c.in_err-v.ensures (λ b. sym (bool_short _ _ (omega arith))))
+    at_exit c.from_residual.ensures.1 (stopped c.in_err-v.ensures refl (λ b. sym (bool_short _ _ (omega arith))))
 
 pub returns-then-v-lt2 : goal.returns-then-v-lt2
 returns-then-v-lt2 c =

@@ -1,11 +1,11 @@
-use Rattle.std.proofs.Common.{arith, sym, ◌∙◌}
+use Rattle.std.proofs.Common.{arith, refl, sym, ◌∙◌}
 use Rattle.values.specs.Values.{char_at}
 use Rattle.values.proofs.Answers.{at_exit, stopped, passed, broken, words_small}
 use Rattle.values.proofs.reader.Reader.character.Goals as goal
 
 pub returns-in_err-v : goal.returns-in_err-v
 unfolding char_at
-returns-in_err-v c = at_exit c.from_residual.ensures.1 (stopped c.in_err-v.ensures (λ b. rw (b, char_at)))
+returns-in_err-v c = at_exit c.from_residual.ensures.1 (stopped c.in_err-v.ensures refl (λ b. rw (b, char_at)))
 
 pub returns-then-is_scalar : goal.returns-then-is_scalar
 unfolding char_at
